@@ -1,0 +1,14 @@
+-- A table that holds a formula.
+use mathlib.Core.Path.{_≡_}
+use Prim.Native.Nat.{_≤_}
+use lib.ListN.{take}
+use Rattle.definitions.specs.Bytes.{Bytes}
+use Rattle.definitions.specs.Syntax.{Formula}
+use Rattle.definitions.specs.Limits.{house}
+use Rattle.text.specs.declared.table.Table.{Table}
+use Rattle.text.specs.Words.{tokens, code}
+
+-- the used words of a table are a formula's, over the rule text T and the made names M
+pub record Holds (T M : Bytes) (t : Table) (f : Formula) : Type 0 where
+  pub room : t .used ≤ house .weight
+  pub words : tokens T M (take (t .used) (t .nodes)) ≡ code f

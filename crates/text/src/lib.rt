@@ -1,0 +1,3 @@
+// Rule text and node tables: names and their order, symbols and their spellings, the table, the reader and the writer.
+pub mod names;
+pub mod table;
