@@ -32,6 +32,8 @@ pub mod Shapes
 pub mod Clauses
 pub mod Rows
 pub mod Listing
+pub mod Kept
+pub mod Passing
 pub mod Given
 pub mod Demand
 pub mod Raised

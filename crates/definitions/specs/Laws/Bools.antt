@@ -64,3 +64,6 @@ pub →T : (b : Bool) → b ≡ true → T b
 pub →¬T : (b : Bool) → b ≡ false → T (not b)
 →¬T true e = clash refl e
 →¬T false e = tt
+
+pub and-both : {a b : Bool} → a ≡ true → b ≡ true → (a && b) ≡ true
+and-both e f = rw e f

@@ -13,7 +13,7 @@ unfoldable pub once : List Name → Bool
 once [] = true
 once (x ∷ l) = not (mem x l) && once l
 
-once-filter : (p : Name → Bool) (l : List Name) → once l ≡ true → once (filter p l) ≡ true
+pub once-filter : (p : Name → Bool) (l : List Name) → once l ≡ true → once (filter p l) ≡ true
 unfolding once filter
 once-filter p [] h = refl
 once-filter p (x ∷ l) h =
