@@ -1,6 +1,6 @@
 -- A formula is told by the kind of its first word: a run over any formula is a run over those of that kind. And what a word of an atom or
 -- of a block stands for, also where a block's kind is changed.
-use Prim.Native.Nat.{ℕ, zero, suc, _+_, _-_, _/_, _%_, _<_, _≤_}
+use Prim.Native.Nat.{ℕ, zero, suc, _+_, _-_, _/_, _<_, _≤_}
 use native.Mathlib.Omega.{arith}
 use native.Mathlib.Numerals.{add-one}
 use mathlib.Core.Bool.{Bool, true, false, cond}
@@ -8,11 +8,11 @@ use mathlib.Core.Path.{_≡_, refl, sym, ap, _∙_}
 use mathlib.Core.List.{List, [], _∷_, _++_, map}
 use borrow.Author.Tests.{eqb-true, ne-eqb}
 use lib.Dec.{eqb}
-use lib.ListN.{length, drop, getD, List·getD-eq-default, length-append, length-map, drop-of-length-le}
+use lib.ListN.{length, drop, getD, List·getD-eq-default, length-append, drop-of-length-le}
 use lib.Seq.{drop-cons}
 use Rattle.definitions.specs.Bytes.{Bytes}
 use Rattle.definitions.specs.Limits.{house}
-use Rattle.definitions.specs.Syntax.{Name, Term, Terms, count, Op, and, or, imp, iff, Quant, all, ex, Formula, top, bot, pred, eq, neg, bin, blk}
+use Rattle.definitions.specs.Syntax.{Name, Term, Terms, count, and, or, imp, iff, Quant, all, ex, Formula, top, bot, pred, eq, neg, bin, blk}
 use Rattle.definitions.specs.Negation.{flip}
 use Rattle.text.specs.Words.{Token, var-token, sign, token, spell, kind-of, count-of, term-code, terms-code, op-kind, block-kind, code}
 use Rattle.negation.specs.declared.Went.{Went}

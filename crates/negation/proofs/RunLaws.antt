@@ -3,7 +3,7 @@
 use Prim.Native.Nat.{ℕ, suc, _+_, _<_, _≤_}
 use native.Mathlib.Omega.{arith}
 use native.Mathlib.Numerals.{add-one}
-use mathlib.Core.Bool.{Bool, true, false}
+use mathlib.Core.Bool.{Bool, true, false, false≢true}
 use mathlib.Core.Path.{_≡_, refl, sym, ap, _∙_}
 use mathlib.Core.List.{List, [], _∷_, _++_, map, map-append, append-assoc}
 use lib.ListN.{length, take, drop, set, getD, length-append, length-map, length-take, length-drop, take-append-drop}
@@ -15,7 +15,7 @@ use Rattle.negation.specs.Runs.{End, done, over, Runs, Fit, Safe}
 
 -- a test that came out one way did not come out the other
 pub not-both : {b : Bool} → b ≡ false → b ≡ true → ⊥
-not-both p q = let z : _≡_ {A = ℕ} 0 1 = cc in omega arith
+not-both p q = false≢true (sym p ∙ q)
 
 -- the count after a run that is done
 counted : (d : ℕ → Token) (o : List Token) {O O′ : List ℕ} {used n : ℕ} → Fit O used → Fit O′ n → map d (take n O′) ≡ map d (take used O) ++ o → n ≡ used + length o

@@ -1,6 +1,6 @@
 -- Terms one word at a time: behind a term's word stand its arguments, so the terms that are due after it are one fewer and its arguments
 -- more. And a block's variables are terms.
-use Prim.Native.Nat.{ℕ, suc, _+_, _-_, _*_, _<_, _≤_}
+use Prim.Native.Nat.{ℕ, _+_, _-_, _*_, _<_, _≤_}
 use native.Mathlib.Omega.{arith}
 use mathlib.Core.Bool.{Bool, true, false, cond}
 use mathlib.Core.Path.{_≡_, refl, ap, _∙_}

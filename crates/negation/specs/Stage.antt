@@ -7,7 +7,6 @@ use Rattle.definitions.specs.Syntax.{Formula, weight}
 use Rattle.definitions.specs.Negation.{nnf}
 use Rattle.text.specs.declared.table.Table.{Table}
 use Rattle.text.specs.Tables.{Holds}
-use Rattle.negation.specs.declared.Stage.{Stage}
 use Rattle.negation.specs.declared.Stage.the-variants.{Made, Full}
 use Rattle.negation.specs.declared.Staged.{Staged}
 

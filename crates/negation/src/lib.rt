@@ -1,17 +1,18 @@
-// Negation form (stage 4) over node tables: negation on atoms alone, no implication, no iff. A run reads the words of a formula and
-// writes those of its form behind another table's. It stops at the first word without room, and so does every run above it: there are
-// at most a few calls for each word written and each level of the rule, also where an iff chain's form is exponentially large.
+// Negation form (stage 4) over node tables. A run reads the words of a formula and writes those of its form behind another table's. It
+// stops at the first word without room, and every run above it returns at once: at most a table of words is written, also where an iff
+// chain's form is exponentially large, and between two of them lie no more calls than a few for each level of the rule.
+// The functions that call themselves borrow both tables; none has an array of its own.
 use text::table::Table;
 ghost use Prim.Native.Nat.{ℕ, _+_, _≤_, _<_};
 ghost use mathlib.Core.Path.{_≡_};
-ghost use mathlib.Core.Bool.{true, not};
+ghost use mathlib.Core.Bool.{not};
 ghost use mathlib.Core.List.{List, [], _∷_, _++_, map};
 ghost use lib.ListN.{length};
 ghost use Rattle.definitions.specs.Bytes.{Bytes};
 ghost use Rattle.definitions.specs.Limits.{house};
 ghost use Rattle.definitions.specs.Syntax.{Name, Quant, Formula, Terms, count as count-terms};
 ghost use Rattle.definitions.specs.Negation.{flip, nnf as nnf-of, push-not as push-not-of};
-ghost use Rattle.text.specs.Words.{token, sign, block-kind, var-token, code, terms-code, kind-of, count-of};
+ghost use Rattle.text.specs.Words.{token, sign, block-kind, var-token, code, terms-code, count-of};
 ghost use Rattle.negation.specs.Runs.{Fit, Safe, Runs, behind, signed};
 ghost use Rattle.negation.specs.Stage.{Negated};
 
@@ -42,10 +43,10 @@ const FUN: u64 = 11;
 
 // How far a run came: the next word to read, how many words the table has, and whether it stopped for want of room. It also stops where
 // there is no formula.
-pub struct Went {
-    pub next: usize,
-    pub used: usize,
-    pub stopped: bool,
+struct Went {
+    next: usize,
+    used: usize,
+    stopped: bool,
 }
 
 // The count of a word: a predicate's or a function's arguments, a block's variables.
@@ -162,7 +163,7 @@ fn with_terms(
     terms(src, head.next, due, out, head.used)
 }
 
-// The same under a negation.
+// The same under a negation's word: a negated atom.
 fn negated(
     src: &[u64; Table::WEIGHT],
     at: usize,
@@ -173,7 +174,7 @@ fn negated(
 ) -> Went
     requires { ⌜ Fit (now out) used × (length (now src) ≡ house .weight) × (at ≤ house .weight) × (due < 64) ⌝ }
     ensures safe { λ r. ⌜ Safe at r (now (out .exit)) ⌝ }
-    ensures does { λ r. ⌜ ((T M : Bytes) (ts : Terms) → count-terms ts ≡ due → Runs (token T M) (now (src .entry)) at (now (out .entry)) used r (now (out .exit)) (terms-code ts) (token T M 2 ∷ (token T M word ∷ terms-code ts))) ⌝ }
+    ensures does { λ r. ⌜ ((T M : Bytes) (ts : Terms) → count-terms ts ≡ due → Runs (token T M) (now (src .entry)) at (now (out .entry)) used r (now (out .exit)) (terms-code ts) (sign 2 0 [] ∷ (token T M word ∷ terms-code ts))) ⌝ }
 {
     let head = put(at, NOT, out, used);
     if head.stopped {
@@ -384,13 +385,14 @@ pub enum Stage {
     Full,
 }
 
+// A stage's table, and how it ended.
 pub struct Staged {
     pub table: Table,
     pub fate: Stage,
 }
 
-// A table's formula in negation form; `Full` where the form weighs more than a table has words. A table that holds no formula gives
-// some table.
+// The formula of a table in negation form: of ¬(P(x) ⇔ Q(y)) it makes (P(x) ∧ ¬Q(y)) ∨ (¬P(x) ∧ Q(y)). `Full` where the form has more
+// words than a table. Of a table that holds no formula nothing is said but that the count stays in the table.
 pub fn negation_form(table: Table) -> Staged
     ensures { λ r. ⌜ Negated table r ⌝ }
 {

@@ -2,3 +2,13 @@ pub mod Words
 pub mod Tables
 pub mod Names
 pub mod Weights
+pub mod Prefixes
+pub mod PrefixLaws
+pub mod Lines
+pub mod Levels
+pub mod Reader
+pub mod Writer
+pub mod WriterLaws
+pub mod PutLaws
+pub mod Nodes
+pub mod NodeLaws

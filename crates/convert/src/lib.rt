@@ -1,0 +1,99 @@
+// The nine conversions: a rule's text in, the text of a form out.
+ghost use mathlib.Core.Path.{_≡_};
+ghost use Prim.Native.Nat.{_≤_};
+ghost use lib.ListN.{length, replicate};
+ghost use Rattle.definitions.specs.Bytes.{Bytes};
+ghost use Rattle.definitions.specs.Syntax.{Formula};
+ghost use Rattle.definitions.specs.RuleText.{written};
+ghost use Rattle.definitions.specs.Limits.{house, published};
+ghost use Rattle.definitions.specs.Convert.{to-nnf, convert as conversion, convert-tree};
+ghost use Rattle.definitions.specs.Laws.Within.{Within};
+ghost use Rattle.text.specs.Tables.{Holds};
+ghost use Rattle.convert.specs.Answers.{Meets, Gives, Shows, ShowsTree};
+
+use negation::{negation_form, Stage};
+use text::reader::{read, Verdict};
+use text::table::Table;
+use text::writer::{write, Written};
+
+// The published size of the work buffer.
+pub const WORK: usize = 32768;
+
+// What a call answers: the text's length, or why there is none. specs/Answers.antt gives document 01's number and place for each.
+pub enum Answer {
+    Length(usize),
+    Room,
+    Malformed(usize),
+    Large(usize),
+    Shape,
+    Hash,
+    Name(usize),
+    Weight(usize),
+    Clauses,
+    Work,
+}
+
+// Sets every byte to zero.
+fn clear(s: &mut [u8])
+    ensures { λ _. ⌜ now (s .exit) ≡ replicate (length (now (s .entry))) 0 ⌝ }
+{
+    let mut i = 0;
+    while i < s.len() {
+        s[i] = 0;
+        i += 1;
+    }
+}
+
+// Writes a table's formula to the front of out, if there is room for it.
+fn show<'a>(table: Table, text: &'a [u8], made: &'a [u8], out: &mut [u8]) -> Answer
+    ensures { λ r. ⌜ ((f : Formula) → Holds (now (text .entry)) (now (made .entry)) table f → Shows (written f) (now (out .entry)) r (now (out .exit))) ⌝ }
+{
+    let used = table.used;
+    match write(&table.nodes, used, text, made, out) {
+        Written::Length(n) => Answer::Length(n),
+        Written::NoRoom => Answer::Room,
+    }
+}
+
+// Stage 4 of a rule that was read.
+fn negation_of<'a>(table: Table, text: &'a [u8], made: &'a [u8], out: &mut [u8]) -> Answer
+    ensures { λ r. ⌜ ((f : Formula) → Within house f → Holds (now (text .entry)) (now (made .entry)) table f → ShowsTree to-nnf f (now (out .entry)) r (now (out .exit))) ⌝ }
+{
+    let s = negation_form(table);
+    let fate = s.fate;
+    match fate {
+        Stage::Full => Answer::Weight(4),
+        Stage::Made => {
+            let t = s.table;
+            show(t, text, made, out)
+        }
+    }
+}
+
+// A rule's text to its negation form.
+fn nnf_inside<'a>(text: &'a [u8], made: &'a [u8], out: &mut [u8]) -> Answer
+    ensures { λ r. ⌜ Gives to-nnf (now (text .entry)) (now (out .entry)) r (now (out .exit)) ⌝ }
+{
+    let o = read(text);
+    let verdict = o.verdict;
+    match verdict {
+        Verdict::Malformed(k) => Answer::Malformed(k),
+        Verdict::Large(k) => Answer::Large(k),
+        Verdict::Tree => {
+            let table = o.table;
+            negation_of(table, text, made, out)
+        }
+    }
+}
+
+// The negation form.
+pub fn nnf(text: &[u8], out: &mut [u8], work: &mut [u8]) -> Answer
+    ensures { λ r. ⌜ Meets to-nnf (now (text .entry)) (now (out .entry)) (now (work .entry)) r (now (out .exit)) (now (work .exit)) ⌝ }
+{
+    if work.len() < WORK {
+        return Answer::Work;
+    }
+    let r = nnf_inside(text, work, out);
+    clear(work);
+    r
+}

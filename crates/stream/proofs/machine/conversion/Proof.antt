@@ -1,0 +1,23 @@
+-- Each test looks whether the line is `do` TAB and a conversion's name.
+use borrow.Author.Needs.{needs}
+use lib.ListN.{drop}
+use Rattle.definitions.specs.Convert.{to-simplified, to-nnf, to-pnf}
+use Rattle.definitions.specs.Program.{conversions}
+use Rattle.stream.proofs.ByteLaws.{named-here, named-behind}
+use Rattle.stream.proofs.machine.conversion.Statement.{statement}
+use Rattle.stream.proofs.machine.conversion.Tie as tie
+
+pub conversion-spec : {M : Type 1} → statement M
+conversion-spec =
+    tie.close (tie.spec
+    (λ c. search needs)  -- slice-aggregate-same-name
+    (λ c κs. search needs)  -- same-name-requires
+    (λ c. named-here _ to-simplified (drop 1 conversions) _ (c .before .same-name .ensures) (c .if1 .taken))  -- returns
+    (λ c. search needs)  -- slice-aggregate-same-name-2
+    (λ c κs. search needs)  -- same-name-requires-2
+    (λ c. named-behind _ to-simplified (drop 1 conversions) _ (c .before .before .before .before .same-name .ensures) _ (c .before .before .before .if1 .left) (named-here _ to-nnf (drop 2 conversions) _ (c .before .same-name2 .ensures) (c .if2 .taken)))  -- returns-2
+    (λ c. search needs)  -- slice-aggregate-same-name-3
+    (λ c κs. search needs)  -- same-name-requires-3
+    (λ c. named-behind _ to-simplified (drop 1 conversions) _ (c .before .before .before .before .before .before .before .same-name .ensures) _ (c .before .before .before .before .before .before .if1 .left) (named-behind _ to-nnf (drop 2 conversions) _ (c .before .before .before .before .same-name2 .ensures) _ (c .before .before .before .if2 .left) (named-here _ to-pnf (drop 3 conversions) _ (c .before .same-name3 .ensures) (c .if3 .taken))))  -- returns-3
+    (λ c κs. search needs)  -- conversion-snf-requires
+    (λ c. named-behind _ to-simplified (drop 1 conversions) _ (c .before .before .before .before .before .before .before .before .same-name .ensures) _ (c .before .before .before .before .before .before .before .if1 .left) (named-behind _ to-nnf (drop 2 conversions) _ (c .before .before .before .before .before .same-name2 .ensures) _ (c .before .before .before .before .if2 .left) (named-behind _ to-pnf (drop 3 conversions) _ (c .before .before .same-name3 .ensures) _ (c .before .if3 .left) (c .conversion-snf .ensures)))))  -- returns-4

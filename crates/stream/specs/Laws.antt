@@ -1,0 +1,6 @@
+pub mod Enough
+pub mod Rules
+pub mod Held
+pub mod Labels
+pub mod Told
+pub mod Fed

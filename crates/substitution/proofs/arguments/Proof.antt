@@ -1,0 +1,14 @@
+-- `substitution::arguments` meets its contract.
+use borrow.Author.Needs.{needs}
+use native.Mathlib.Omega.{arith}
+use mathlib.Core.Path.{_∙_}
+use Rattle.substitution.specs.Arguments.{behind-function, behind-other}
+use Rattle.substitution.proofs.arguments.Statement.{statement}
+use Rattle.substitution.proofs.arguments.Tie as tie
+
+pub arguments-spec : {M : Type 1} → statement M
+arguments-spec =
+    tie.close (tie.spec
+    (λ c. search needs)
+    (λ c. (λ T M. c .count .ensures .0 ∙ behind-function T M _ (omega arith), c .count .ensures .1))
+    (λ c. (λ T M. behind-other T M _ (c .if1 .left), omega arith)))

@@ -1,0 +1,8 @@
+-- Free variables over node tables: each once, by first occurrence from left to right; a block takes its variables out of its body's list.
+pub mod Runs
+pub mod Slices
+pub mod Unions
+pub mod Spelled
+pub mod Arguments
+pub mod Keeping
+pub mod Nodes

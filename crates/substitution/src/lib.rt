@@ -1,0 +1,311 @@
+// Free variables over node tables, in one list: each name found so far stands there once, and what a block's body added is sifted
+// when the block ends. Names are told apart by their spellings, never by their symbols.
+use text::names::spelled_same;
+use text::table::Table;
+ghost use mathlib.Core.Path.{_≡_};
+ghost use mathlib.Core.Bool.{false};
+ghost use mathlib.Core.List.{List, _++_, map};
+ghost use Prim.Native.Nat.{_+_, _≤_, _<_};
+ghost use lib.ListN.{length};
+ghost use lib.Seq.{slice};
+ghost use Rattle.definitions.specs.Bytes.{Bytes};
+ghost use Rattle.definitions.specs.Limits.{house};
+ghost use Rattle.definitions.specs.Syntax.{Name, Formula, Terms, count as count-terms};
+ghost use Rattle.definitions.specs.Names.{mem, free as free-of, terms-vars, union, without};
+ghost use Rattle.text.specs.Words.{token, var-token, code, terms-code, count-of, spell};
+ghost use Rattle.substitution.specs.Runs.{spells, Retains, Sifts, Notes, Within, Safe, Collects, Lists};
+ghost use Rattle.substitution.specs.Arguments.{behind};
+
+// The kinds of words that are told apart here: the places of their keywords.
+const BOT: u64 = 1;
+
+const NOT: u64 = 2;
+
+const IFF: u64 = 6;
+
+const EQ: u64 = 7;
+
+const EX: u64 = 9;
+
+const PRED: u64 = 10;
+
+const FUN: u64 = 11;
+
+const VAR: u64 = 12;
+
+// How far a run came: the next word to read, and how many words the list has.
+pub struct Went {
+    pub next: usize,
+    pub used: usize,
+}
+
+// The count of a word: a predicate's or a function's arguments, a block's variables.
+fn count(word: u64) -> usize
+    ensures { λ r. ⌜ (r ≡ count-of word) × (r < 64) ⌝ }
+{
+    (word / 16 % 64) as usize
+}
+
+// How many terms stand behind a term's word: a function's arguments.
+fn arguments(word: u64) -> usize
+    ensures { λ r. ⌜ ((T M : Bytes) → r ≡ behind (token T M word)) × (r < 64) ⌝ }
+{
+    if word % 16 == FUN {
+        return count(word);
+    }
+    0
+}
+
+// Whether one of words[from..to] is spelled as `word` is.
+fn among<'a>(
+    text: &'a [u8],
+    made: &'a [u8],
+    words: &[u64; Table::WEIGHT],
+    from: usize,
+    to: usize,
+    word: u64,
+) -> bool
+    requires { ⌜ to ≤ house .weight ⌝ }
+    ensures { λ r. ⌜ (length (now (words .entry)) ≡ house .weight → r ≡ mem (spell (now (text .entry)) (now (made .entry)) word)
+        (spells (now (text .entry)) (now (made .entry)) (slice from to (now (words .entry))))) ⌝ }
+{
+    let mut i = from;
+    while i < to {
+        let w = words[i];
+        if spelled_same(text, made, word, w) {
+            return true;
+        }
+        i += 1;
+    }
+    false
+}
+
+// Writes `word` at list[kept] if its name stands in src[low..high] exactly if that is wanted.
+fn retain<'a>(
+    text: &'a [u8],
+    made: &'a [u8],
+    src: &[u64; Table::WEIGHT],
+    low: usize,
+    high: usize,
+    wanted: bool,
+    list: &mut [u64; Table::WEIGHT],
+    from: usize,
+    kept: usize,
+    word: u64,
+) -> usize
+    requires { ⌜ (high ≤ house .weight) × (from ≤ kept) × (kept < house .weight) ⌝ }
+    ensures { λ r. ⌜ Retains (now (text .entry)) (now (made .entry)) (now (src .entry)) low high wanted from (now (list .entry)) kept word (now (list .exit)) r ⌝ }
+{
+    if among(text, made, src, low, high, word) != wanted {
+        return kept;
+    }
+    list[kept] = word;
+    kept + 1
+}
+
+// Of list[from..to] keeps, from `from` on and in their order, the words whose names stand in src[low..high] exactly if that is wanted;
+// gives the place behind them. What stood before `from` stays; where a place is past the table, nothing is kept.
+pub fn sift<'a>(
+    text: &'a [u8],
+    made: &'a [u8],
+    src: &[u64; Table::WEIGHT],
+    low: usize,
+    high: usize,
+    wanted: bool,
+    list: &mut [u64; Table::WEIGHT],
+    from: usize,
+    to: usize,
+) -> usize
+    ensures { λ r. ⌜ Sifts (now (text .entry)) (now (made .entry)) (now (src .entry)) low high wanted (now (list .entry)) from to (now (list .exit)) r ⌝ }
+{
+    if high > Table::WEIGHT {
+        return from;
+    }
+    if to > Table::WEIGHT {
+        return from;
+    }
+    let mut next = from;
+    let mut kept = from;
+    while next < to {
+        let word = list[next];
+        kept = retain(text, made, src, low, high, wanted, list, from, kept, word);
+        next += 1;
+    }
+    kept
+}
+
+// Adds `word` to list[..used] if it is a variable that is not there yet.
+fn note<'a>(
+    text: &'a [u8],
+    made: &'a [u8],
+    word: u64,
+    list: &mut [u64; Table::WEIGHT],
+    used: usize,
+) -> usize
+    requires { ⌜ used < house .weight ⌝ }
+    ensures { λ r. ⌜ Notes (now (text .entry)) (now (made .entry)) word (now (list .entry)) used (now (list .exit)) r ⌝ }
+{
+    if word % 16 != VAR {
+        return used;
+    }
+    if among(text, made, list, 0, used, word) {
+        return used;
+    }
+    list[used] = word;
+    used + 1
+}
+
+// Adds the variables of the `due` terms from `at` on, with all that is inside them.
+fn terms<'a>(
+    text: &'a [u8],
+    made: &'a [u8],
+    src: &[u64; Table::WEIGHT],
+    at: usize,
+    end: usize,
+    due: usize,
+    list: &mut [u64; Table::WEIGHT],
+    used: usize,
+) -> Went
+    requires { ⌜ Within at end used × (due < 64) ⌝ }
+    ensures safe { λ r. ⌜ Safe (now (src .entry)) at end (now (list .entry)) used (now (list .exit)) (r .next) (r .used) ⌝ }
+    ensures does { λ r. ⌜ ((ts : Terms) → count-terms ts ≡ due → Collects (now (text .entry)) (now (made .entry)) (now (src .entry)) at end (now (list .entry)) used (now (list .exit)) (r .next) (r .used) (terms-code ts) (terms-vars ts)) ⌝ }
+{
+    let mut next = at;
+    let mut have = used;
+    let mut left = due;
+    while left > 0 {
+        if next >= end {
+            return Went {
+                next: next,
+                used: have,
+            };
+        }
+        let word = src[next];
+        have = note(text, made, word, list, have);
+        next += 1;
+        left = left - 1 + arguments(word);
+    }
+    Went {
+        next: next,
+        used: have,
+    }
+}
+
+// Adds the free variables of the formula at `at`. Where there is no formula, the run goes on behind a word or ends.
+fn collect<'a>(
+    text: &'a [u8],
+    made: &'a [u8],
+    src: &[u64; Table::WEIGHT],
+    at: usize,
+    end: usize,
+    list: &mut [u64; Table::WEIGHT],
+    used: usize,
+) -> Went
+    requires { ⌜ Within at end used ⌝ }
+    ensures safe { λ r. ⌜ Safe (now (src .entry)) at end (now (list .entry)) used (now (list .exit)) (r .next) (r .used) ⌝ }
+    ensures does { λ r. ⌜ ((f : Formula) → Collects (now (text .entry)) (now (made .entry)) (now (src .entry)) at end (now (list .entry)) used (now (list .exit)) (r .next) (r .used) (code f) (free-of f)) ⌝ }
+{
+    if at >= end {
+        return Went {
+            next: at,
+            used: used,
+        };
+    }
+    let word = src[at];
+    let kind = word % 16;
+    if kind <= BOT {
+        return Went {
+            next: at + 1,
+            used: used,
+        };
+    }
+    if kind <= NOT {
+        return collect(text, made, src, at + 1, end, list, used);
+    }
+    if kind <= IFF {
+        return both(text, made, src, at + 1, end, list, used);
+    }
+    if kind <= EQ {
+        return terms(text, made, src, at + 1, end, 2, list, used);
+    }
+    if kind <= EX {
+        return block(text, made, src, at + 1, end, count(word), list, used);
+    }
+    if kind <= PRED {
+        return terms(text, made, src, at + 1, end, count(word), list, used);
+    }
+    Went {
+        next: at + 1,
+        used: used,
+    }
+}
+
+// Adds the free variables of the two formulae from `at` on.
+fn both<'a>(
+    text: &'a [u8],
+    made: &'a [u8],
+    src: &[u64; Table::WEIGHT],
+    at: usize,
+    end: usize,
+    list: &mut [u64; Table::WEIGHT],
+    used: usize,
+) -> Went
+    requires { ⌜ Within at end used ⌝ }
+    ensures safe { λ r. ⌜ Safe (now (src .entry)) at end (now (list .entry)) used (now (list .exit)) (r .next) (r .used) ⌝ }
+    ensures does { λ r. ⌜ ((a b : Formula) → Collects (now (text .entry)) (now (made .entry)) (now (src .entry)) at end (now (list .entry)) used (now (list .exit)) (r .next) (r .used) (code a ++ code b) (union (free-of a) (free-of b))) ⌝ }
+{
+    let left = collect(text, made, src, at, end, list, used);
+    collect(text, made, src, left.next, end, list, left.used)
+}
+
+// Adds the free variables of the formula behind the `many` variables from `at` on, without these.
+fn block<'a>(
+    text: &'a [u8],
+    made: &'a [u8],
+    src: &[u64; Table::WEIGHT],
+    at: usize,
+    end: usize,
+    many: usize,
+    list: &mut [u64; Table::WEIGHT],
+    used: usize,
+) -> Went
+    requires { ⌜ Within at end used ⌝ }
+    ensures safe { λ r. ⌜ Safe (now (src .entry)) at end (now (list .entry)) used (now (list .exit)) (r .next) (r .used) ⌝ }
+    ensures does { λ r. ⌜ ((vs : List Name) (f : Formula) → length vs ≡ many → Collects (now (text .entry)) (now (made .entry)) (now (src .entry)) at end (now (list .entry)) used (now (list .exit)) (r .next) (r .used) (map var-token vs ++ code f) (without vs (free-of f))) ⌝ }
+{
+    if many > end - at {
+        return Went {
+            next: end,
+            used: used,
+        };
+    }
+    let body = at + many;
+    let inner = collect(text, made, src, body, end, list, used);
+    let kept = sift(text, made, src, at, body, false, list, used, inner.used);
+    Went {
+        next: inner.next,
+        used: kept,
+    }
+}
+
+// The free variables of the formula in nodes[from..to], each once, by first occurrence: their words into `out`, from its start on. Gives
+// how many there are; none where a place is past the table.
+pub fn free<'a>(
+    text: &'a [u8],
+    made: &'a [u8],
+    nodes: &[u64; Table::WEIGHT],
+    from: usize,
+    to: usize,
+    out: &mut [u64; Table::WEIGHT],
+) -> usize
+    ensures { λ r. ⌜ Lists (now (text .entry)) (now (made .entry)) (now (nodes .entry)) from to (now (out .entry)) (now (out .exit)) r ⌝ }
+{
+    if to > Table::WEIGHT {
+        return 0;
+    }
+    if from > to {
+        return 0;
+    }
+    let went = collect(text, made, nodes, from, to, out, 0);
+    went.used
+}
