@@ -10,11 +10,13 @@ ghost use Rattle.definitions.specs.Convert.{to-nnf, convert as conversion, conv
 ghost use Rattle.definitions.specs.Laws.Within.{Within};
 ghost use Rattle.text.specs.Tables.{Holds};
 ghost use Rattle.convert.specs.Answers.{Meets, Gives, Shows, ShowsTree};
-
-use negation::{negation_form, Stage};
-use text::reader::{read, Verdict};
+use negation::Stage;
+use negation::negation_form;
+use text::reader::Verdict;
+use text::reader::read;
 use text::table::Table;
-use text::writer::{write, Written};
+use text::writer::Written;
+use text::writer::write;
 
 // The published size of the work buffer.
 pub const WORK: usize = 32768;

@@ -9,10 +9,10 @@ use Rattle.convert.proofs.show.Tie as tie
 pub show-spec : {M : Type 1} → statement M
 show-spec =
     tie.close (tie.spec
-    (λ c κs. search needs) -- write-requires
-    (λ c. search needs) -- enum-known-n
-    (λ c. search needs) -- enum-told
-    (λ c. search needs) -- same-length
-    (λ c. λ f h. let d = c .before .before .before .before .before in shown (d .write .ensures) h (ap answer-of (c .before .n .given .1))) -- returns
-    (λ c. search needs) -- same-length-2
-    (λ c. λ f h. let d = c .before .before .before .before in shown (d .write .ensures) h (ap answer-of (c .enum-told .given .1)))) -- returns-2
+    (λ c κs. search needs)  -- write-requires
+    (λ c. search needs)  -- enum-known-n
+    (λ c. search needs)  -- enum-told
+    (λ c. search needs)  -- same-length
+    (λ c. λ f h. let d = c .before .before .before .before .before in shown (d .write .ensures) h (ap answer-of (c .before .n .given .1)))  -- returns
+    (λ c. search needs)  -- same-length-2
+    (λ c. λ f h. let d = c .before .before .before .before in shown (d .write .ensures) h (ap answer-of (c .enum-told .given .1))))  -- returns-2
