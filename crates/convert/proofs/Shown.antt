@@ -12,11 +12,12 @@ use Rattle.definitions.specs.Syntax.{Formula, weight}
 use Rattle.definitions.specs.Limits.{house, published}
 use Rattle.definitions.specs.RuleText.{written}
 use Rattle.definitions.specs.Reading.{Reading, tree, malformed, large, read}
+use Rattle.definitions.specs.Simplify.{simplify}
 use Rattle.definitions.specs.Negation.{nnf}
-use Rattle.definitions.specs.Convert.{Conversion, to-nnf, Result, given, refused, not-given, fitted, laid, convert, convert-tree, convert-reading, answer, out-after, work-after}
+use Rattle.definitions.specs.Convert.{to-simplified, to-nnf, Result, given, refused, not-given, fitted, laid, convert, convert-tree, convert-reading, answer, out-after, work-after}
 use Rattle.definitions.specs.Laws.Within.{Within}
 use Rattle.definitions.specs.Laws.Reading.{read-iff}
-use Rattle.definitions.specs.Laws.Passing.{nnf-stage}
+use Rattle.definitions.specs.Laws.Passing.{simplify-stage, nnf-stage}
 use Rattle.text.specs.declared.table.Table.{Table}
 use Rattle.text.specs.declared.writer.Written.{Written}
 use Rattle.text.specs.declared.reader.Outcome.{Outcome}
@@ -31,8 +32,9 @@ use Rattle.negation.specs.declared.Staged.{Staged}
 use Rattle.negation.specs.declared.Stage.the-variants.{Made, Full}
 use Rattle.negation.specs.Stage.{made, full}
 use Rattle.negation.specs.Stage.{Outcome as Stages}
+use Rattle.convert.specs.declared.Conversion.{Conversion}
 use Rattle.convert.specs.declared.Answer.{Answer}
-use Rattle.convert.specs.Answers.{meaning, Answered, Meets}
+use Rattle.convert.specs.Answers.{meaning, named, Answered, Meets}
 
 -- the text of a formula that stands in a table
 pub shown : {T M : Bytes} {t : Table} {f : Formula} {out out′ : Bytes} {w : Written} {r : Answer}
@@ -46,9 +48,19 @@ shown {out = out} w h e = record {
 pub as-well : {a b : Result} {out out′ : Bytes} {r : Answer} → a ≡ b → Answered a out r out′ → Answered b out r out′
 as-well e h = rw e at h
 
+-- a conversion under its name
+pub by-name : (f : Formula) {v w : Conversion} {out out′ : Bytes} {r : Answer} → w ≡ v → Answered (convert-tree house (named v) f) out r out′
+    → Answered (convert-tree house (named w) f) out r out′
+by-name f e h = as-well (ap (λ (x : Conversion). convert-tree house (named x) f) (sym e)) h
+
 -- a refusal, with out as it was
 pub is-refused : {a : Result} {n p : ℕ} {out : Bytes} {r : Answer} → a ≡ refused n p → meaning r ≡ not-given n p → Answered a out r out
 is-refused e m = rw e (record { answers = m; lays = refl })
+
+-- stage 1 refuses no rule within the limits
+pub simplify-fits : {f : Formula} → Within house f → given (written (simplify f)) ≡ convert-tree house to-simplified f
+unfolding convert-tree
+simplify-fits {f} w = sym (simplify-stage house f (given (written (simplify f))) w)
 
 -- stage 4 refuses a rule within the limits for its weight alone
 pub negation-fits : {f : Formula} → Within house f → weight (nnf f) ≤ house .weight → convert-tree house to-nnf f ≡ given (written (nnf f))
@@ -61,7 +73,7 @@ negation-heavy {f} w h = nnf-stage house f (given (written (nnf f))) w ∙ rw (l
 
 -- what was read decides the conversion; the rule that was read is within the limits
 pub was-tree : (T : Bytes) (o : Outcome) → Says (read house T) T o → o .verdict ≡ Tree
-    → (c : Conversion) → (f : Formula) × Within house f × ((M : Bytes) → Holds T M (o .table) f) × (convert house c T ≡ convert-tree house c f)
+    → (c : Rattle.definitions.specs.Convert.Conversion) → (f : Formula) × Within house f × ((M : Bytes) → Holds T M (o .table) f) × (convert house c T ≡ convert-tree house c f)
 unfolding convert
 was-tree T o says e c = go (read house T) refl says
   where
@@ -70,7 +82,7 @@ was-tree T o says e c = go (read house T) refl says
     go (malformed k) h s = let z : _≡_ {A = ℕ} 0 1 = cc in absurd (omega arith)
     go (large k) h s = let z : _≡_ {A = ℕ} 0 1 = cc in absurd (omega arith)
 
-pub was-malformed : (T : Bytes) (o : Outcome) {k : ℕ} → Says (read house T) T o → o .verdict ≡ Malformed k → (c : Conversion) → convert house c T ≡ refused 2 k
+pub was-malformed : (T : Bytes) (o : Outcome) {k : ℕ} → Says (read house T) T o → o .verdict ≡ Malformed k → (c : Rattle.definitions.specs.Convert.Conversion) → convert house c T ≡ refused 2 k
 unfolding convert
 was-malformed T o {k} says e c = go (read house T) refl says
   where
@@ -79,7 +91,7 @@ was-malformed T o {k} says e c = go (read house T) refl says
     go (malformed j) h s = let i : j ≡ k = cc in ap (convert-reading house c) h ∙ ap (refused 2) i
     go (large j) h s = let z : _≡_ {A = ℕ} 0 1 = cc in absurd (omega arith)
 
-pub was-large : (T : Bytes) (o : Outcome) {k : ℕ} → Says (read house T) T o → o .verdict ≡ Large k → (c : Conversion) → convert house c T ≡ refused 3 k
+pub was-large : (T : Bytes) (o : Outcome) {k : ℕ} → Says (read house T) T o → o .verdict ≡ Large k → (c : Rattle.definitions.specs.Convert.Conversion) → convert house c T ≡ refused 3 k
 unfolding convert
 was-large T o {k} says e c = go (read house T) refl says
   where
@@ -89,7 +101,7 @@ was-large T o {k} says e c = go (read house T) refl says
     go (large j) h s = let i : j ≡ k = cc in ap (convert-reading house c) h ∙ ap (refused 3) i
 
 -- refusal 9, and work of the published size
-pub too-short : (c : Conversion) (text out work : Bytes) {r : Answer} → length work < published house → meaning r ≡ not-given 9 0 → Meets c text out work r out work
+pub too-short : (c : Rattle.definitions.specs.Convert.Conversion) (text out work : Bytes) {r : Answer} → length work < published house → meaning r ≡ not-given 9 0 → Meets c text out work r out work
 unfolding answer out-after work-after
 too-short c text out work h e = record {
   answers = e ∙ rw (lt-ltb (length work) (published house) h);
@@ -97,7 +109,7 @@ too-short c text out work h e = record {
   clears = rw (lt-ltb (length work) (published house) h);
 }
 
-pub long-enough : (c : Conversion) (text out work : Bytes) {r : Answer} {out′ work′ : Bytes} → published house ≤ length work → Answered (convert house c text) out r out′
+pub long-enough : (c : Rattle.definitions.specs.Convert.Conversion) (text out work : Bytes) {r : Answer} {out′ work′ : Bytes} → published house ≤ length work → Answered (convert house c text) out r out′
     → work′ ≡ replicate (length work) 0 → Meets c text out work r out′ work′
 unfolding answer out-after work-after
 long-enough c text out work h a z = record {

@@ -4,7 +4,10 @@ use lib.ListN.{length}
 use Rattle.definitions.specs.Bytes.{Bytes}
 use Rattle.definitions.specs.Syntax.{Formula}
 use Rattle.definitions.specs.Limits.{house}
-use Rattle.definitions.specs.Convert.{Conversion, Result, given, accepted, not-given, fitted, laid, convert, convert-tree, answer, out-after, work-after}
+use Rattle.definitions.specs.Convert.{to-simplified, to-nnf, Result, given, accepted, not-given, fitted, laid, convert, convert-tree, answer, out-after, work-after}
+use mathlib.Core.List.{List, [], _∷_}
+use Rattle.convert.specs.declared.Conversion.{Conversion}
+use Rattle.convert.specs.declared.Conversion.the-variants.{Simplify, Nnf}
 use Rattle.convert.specs.declared.Answer.{Answer}
 use Rattle.convert.specs.declared.Answer.the-variants.{Length, Room, Malformed, Large, Shape, Hash, Name, Weight, Clauses, Work}
 
@@ -21,8 +24,17 @@ meaning (Weight stage) = not-given 7 stage
 meaning Clauses = not-given 8 5
 meaning Work = not-given 9 0
 
+-- document 01's conversion for each name
+abbrev pub named : Conversion → Rattle.definitions.specs.Convert.Conversion
+named Simplify = to-simplified
+named Nnf = to-nnf
+
+-- those that are built
+abbrev pub built : List Rattle.definitions.specs.Convert.Conversion
+built = to-simplified ∷ to-nnf ∷ []
+
 -- the promise of a call: its answer, and what the lent buffers hold at its end
-pub record Meets (c : Conversion) (text out work : Bytes) (r : Answer) (out′ work′ : Bytes) : Type 0 where
+pub record Meets (c : Rattle.definitions.specs.Convert.Conversion) (text out work : Bytes) (r : Answer) (out′ work′ : Bytes) : Type 0 where
   pub answers : meaning r ≡ answer house c text (length out) (length work)
   pub lays : out′ ≡ out-after house c text out (length work)
   pub clears : work′ ≡ work-after house work
@@ -36,8 +48,8 @@ pub record Answered (given-result : Result) (out : Bytes) (r : Answer) (out′ :
 abbrev pub Shows : Bytes → Bytes → Answer → Bytes → Type 0
 Shows s out r out′ = Answered (given s) out r out′
 
-abbrev pub ShowsTree : Conversion → Formula → Bytes → Answer → Bytes → Type 0
+abbrev pub ShowsTree : Rattle.definitions.specs.Convert.Conversion → Formula → Bytes → Answer → Bytes → Type 0
 ShowsTree c f out r out′ = Answered (convert-tree house c f) out r out′
 
-abbrev pub Gives : Conversion → Bytes → Bytes → Answer → Bytes → Type 0
+abbrev pub Gives : Rattle.definitions.specs.Convert.Conversion → Bytes → Bytes → Answer → Bytes → Type 0
 Gives c text out r out′ = Answered (convert house c text) out r out′

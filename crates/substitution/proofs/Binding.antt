@@ -17,7 +17,7 @@ use Rattle.substitution.specs.Runs.{spells, staying, Adds, Collects, Sif
 use Rattle.substitution.specs.Slices.{slice-split, slice-cut}
 use Rattle.substitution.specs.Unions.{without-swap, union-nothing, nothing-union}
 use Rattle.substitution.specs.Spelled.{vars-spelled, those-spelled}
-use Rattle.substitution.specs.Keeping.{keeps-all, keeps-on}
+use Rattle.substitution.specs.Keeping.{unmade-none, keeps-all, keeps-on}
 use Rattle.substitution.specs.Nodes.{below, sides, code-splits, Shapes, by-shape}
 use Rattle.substitution.proofs.Collecting.{collects-word, collects-past}
 
@@ -65,7 +65,7 @@ module _ {T M : Bytes} {S : List ℕ} {at end : ℕ} {O : List ℕ} {used : ℕ}
           size = t .keeps .size ∙ s .keeps .size;
           kept = t .keeps .kept ∙ s .keeps .kept;
           more = t .keeps .more;
-          origin = λ a b. t .keeps .origin a (s .keeps .origin a b);
+          origin = λ a b. t .keeps .origin unmade-none (s .keeps .origin a b);
         };
         forth = omega (arith, s .forth);
         inside = s .inside;

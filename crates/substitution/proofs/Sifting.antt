@@ -49,7 +49,7 @@ module _ {T M : Bytes} {S : List ℕ} {low high : ℕ} {wanted : Bool} {O : List
 
 -- the loop: what was kept and what is left to be sifted
 pub record Sifting (T M : Bytes) (S : List ℕ) (low high : ℕ) (wanted : Bool) (O : List ℕ) (from to : ℕ) (O′ : List ℕ) (next kept : ℕ) : Type 0 where
-  pub keeps : Keeps S O from O′ kept
+  pub keeps : Keeps [] O from O′ kept
   pub behind : kept ≤ next
   pub short : from ≤ to → next ≤ to
   pub unread : length O ≡ house .weight → slice next to O′ ≡ slice next to O

@@ -27,6 +27,9 @@ unmade-word {w} e = record { each = go }
     go zero = e
     go (suc j) = refl
 
+pub unmade-none : Unmade []
+unmade-none = record { each = λ i. refl }
+
 pub keeps-all : {S O : List ℕ} {used : ℕ} → Keeps S O used O used
 keeps-all = record { size = refl; kept = refl; more = omega arith; origin = λ s u. u }
 

@@ -65,7 +65,7 @@ pub record Retains (T M : Bytes) (S : List ℕ) (low high : ℕ) (wanted : Bool)
 
 -- of the words between two places of a list those are kept whose name stays
 pub record Sifts (T M : Bytes) (S : List ℕ) (low high : ℕ) (wanted : Bool) (O : List ℕ) (from to : ℕ) (O′ : List ℕ) (kept : ℕ) : Type 0 where
-  pub keeps : Keeps S O from O′ kept
+  pub keeps : Keeps [] O from O′ kept
   pub short : from ≤ to → kept ≤ to
   pub words : high ≤ house .weight → to ≤ house .weight → from ≤ to → length S ≡ house .weight → length O ≡ house .weight
       → slice from kept O′ ≡ those (λ w. staying wanted (spells T M (slice low high S)) (spell T M w)) (slice from to O)

@@ -40,14 +40,14 @@ pub struct Went {
 }
 
 // The count of a word: a predicate's or a function's arguments, a block's variables.
-fn count(word: u64) -> usize
+pub fn count(word: u64) -> usize
     ensures { λ r. ⌜ (r ≡ count-of word) × (r < 64) ⌝ }
 {
     (word / 16 % 64) as usize
 }
 
 // How many terms stand behind a term's word: a function's arguments.
-fn arguments(word: u64) -> usize
+pub fn arguments(word: u64) -> usize
     ensures { λ r. ⌜ ((T M : Bytes) → r ≡ behind (token T M word)) × (r < 64) ⌝ }
 {
     if word % 16 == FUN {

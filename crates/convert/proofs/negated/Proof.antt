@@ -2,11 +2,11 @@
 use borrow.Author.Needs.{needs}
 use mathlib.Core.Path.{refl}
 use Rattle.convert.proofs.Shown.{as-well, heavy-negation, made-negation}
-use Rattle.convert.proofs.negation_of.Statement.{statement}
-use Rattle.convert.proofs.negation_of.Tie as tie
+use Rattle.convert.proofs.negated.Statement.{statement}
+use Rattle.convert.proofs.negated.Tie as tie
 
-pub negation-of-spec : {M : Type 1} → statement M
-negation-of-spec =
+pub negated-spec : {M : Type 1} → statement M
+negated-spec =
     tie.close (tie.spec
     (λ c κs. search needs)  -- negation-form-requires
     (λ c. search needs)  -- enum-told
