@@ -19,6 +19,7 @@ pub mod Again
 pub mod Negation
 pub mod Fresh
 pub mod Prenex
+pub mod Outward
 pub mod Once
 pub mod Symbols
 pub mod Drawn

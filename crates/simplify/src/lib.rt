@@ -188,7 +188,7 @@ fn paste(
 }
 
 // A block over the variables list[..kept], if there are any, and the body out[first..end], from `used` on; gives the place behind it.
-// There are never more variables kept than there were.
+// The second test is never true of a formula: each free variable stands once, so a block keeps no more of them than it has.
 fn bind(
     kind: u64,
     list: &[u64; Table::WEIGHT],

@@ -2,7 +2,6 @@
 use mathlib.Core.Path.{_≡_, refl, sym, _∙_, ap}
 use mathlib.Core.Bool.{Bool, true, false, _&&_, cond}
 use mathlib.Core.List.{List, [], _∷_, _++_}
-use mathlib.Core.Option.{Option, none, some}
 use Prim.Native.Nat.{ℕ, suc, _+_, _≤_, _<_}
 use native.Mathlib.Numerals.{add-one}
 use native.Mathlib.Omega.{arith}
@@ -13,12 +12,13 @@ use Rattle.definitions.specs.Bytes.{Bytes, LF, TAB, same}
 use Rattle.definitions.specs.Limits.{house}
 use Rattle.definitions.specs.RuleText.{simple-name, is-name}
 use Rattle.definitions.specs.Convert.{Conversion}
-use Rattle.definitions.specs.Program.{do-word, conversion-word, conversions, conversion-of, field-line}
+use Rattle.definitions.specs.Program.{do-word, conversion-word}
+use Rattle.convert.specs.Answers.{built}
 use Rattle.definitions.specs.Laws.Bools.{by-cases, clash, same-truth, and-true-left}
 use Rattle.definitions.specs.Laws.Sets.{same-eq, same-refl}
 use Rattle.stream.specs.declared.machine.State.{State}
 use Rattle.stream.specs.declared.machine.Phase.{Phase}
-use Rattle.stream.specs.Machine.{at, step-in, place-of, matches, next-matched, grown, first-line, refused-file, second-line, in-label, in-text, chosen, first-step, second-step, label-step, text-step, step, rule-tab, longest-first, longest-label}
+use Rattle.stream.specs.Machine.{at, step-in, number-of, matches, next-matched, grown, first-line, refused-file, second-line, in-label, in-text, chosen, first-step, second-step, label-step, text-step, step, rule-tab, longest-first, longest-label}
 
 -- `rule` TAB
 pub few-matched : (k b : ℕ) (r : Bool) → r ≡ matches k b → r ≡ true → k < 5
@@ -42,7 +42,7 @@ unfolding second-step
 second-missed k b c kept r s e f p = rw (p, sym e ∙ f)
 
 -- The first line.
-pub first-ended : (kept : Bytes) (size b n : ℕ) (s : State) → b ≡ LF → n ≡ place-of (conversion-of conversions (take size kept ++ (LF ∷ []))) → s ≡ chosen n → at s kept ≡ first-step kept size b
+pub first-ended : (kept : Bytes) (size b n : ℕ) (s : State) → b ≡ LF → n ≡ number-of built (take size kept ++ (LF ∷ [])) → s ≡ chosen n → at s kept ≡ first-step kept size b
 unfolding first-step
 first-ended kept size b n s l e p = rw (p, e, eq-eqb b LF l)
 
@@ -98,16 +98,16 @@ same-snoc x y a =
 
 -- the first conversion of a list, and those behind it
 module _ (line : Bytes) (c : Conversion) (cs : List Conversion) (r : Bool) (e : r ≡ same line (do-word ++ (TAB ∷ conversion-word c))) where
-  pub named-here : r ≡ true → place-of (some c) ≡ place-of (conversion-of (c ∷ cs) (line ++ (LF ∷ [])))
-  unfolding conversion-of
+  pub named-here : r ≡ true → 0 ≡ number-of (c ∷ cs) (line ++ (LF ∷ []))
+  unfolding number-of
   named-here t = rw (same-snoc line (do-word ++ (TAB ∷ conversion-word c)) LF, sym e ∙ t)
 
-  pub named-behind : (n : ℕ) → r ≡ false → n ≡ place-of (conversion-of cs (line ++ (LF ∷ []))) → n ≡ place-of (conversion-of (c ∷ cs) (line ++ (LF ∷ [])))
-  unfolding conversion-of
-  named-behind n f p = p ∙ sym (rw (same-snoc line (do-word ++ (TAB ∷ conversion-word c)) LF, sym e ∙ f))
+  pub named-behind : (n : ℕ) → r ≡ false → n ≡ number-of cs (line ++ (LF ∷ [])) → suc n ≡ number-of (c ∷ cs) (line ++ (LF ∷ []))
+  unfolding number-of
+  named-behind n f p = rw (same-snoc line (do-word ++ (TAB ∷ conversion-word c)) LF, sym e ∙ f, p)
 
-pub named-none : (line : Bytes) → 9 ≡ place-of (conversion-of [] (line ++ (LF ∷ [])))
-unfolding conversion-of
+pub named-none : (line : Bytes) → 0 ≡ number-of [] (line ++ (LF ∷ []))
+unfolding number-of
 named-none line = refl
 
 -- the phase of a state says what a byte does

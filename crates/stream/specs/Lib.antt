@@ -2,4 +2,5 @@
 -- what the file program prints.
 pub mod Machine
 pub mod Feeding
+pub mod Pushing
 pub mod Laws

@@ -3,34 +3,27 @@
 -- what it prints for all the bytes of a file is what document 01's program prints.
 use mathlib.Core.Bool.{Bool, true, false, _&&_, cond}
 use mathlib.Core.List.{List, [], _∷_, _++_}
-use mathlib.Core.Option.{Option, none, some}
 use Prim.Native.Nat.{ℕ, zero, suc, _+_, _-_, min}
 use lib.Dec.{eqb, leb, ltb}
 use lib.ListN.{length, take, drop, getD, set}
-use Rattle.definitions.specs.Bytes.{Bytes, TAB, LF}
+use Rattle.definitions.specs.Bytes.{Bytes, TAB, LF, same}
 use Rattle.definitions.specs.Limits.{house, published}
 use Rattle.definitions.specs.RuleText.{simple-name, is-name}
-use Rattle.definitions.specs.Convert.{Conversion, to-simplified, to-nnf, to-pnf, to-snf, to-cnf, to-dnf, pnf-to-snf, snf-to-cnf, snf-to-dnf, convert, work-after}
-use Rattle.definitions.specs.Program.{rule-word, done-word, conversion-word, conversions, conversion-of, field-line, refusal, printed, question}
+use Rattle.definitions.specs.Convert.{Conversion, to-simplified, convert, work-after}
+use Rattle.definitions.specs.Program.{do-word, rule-word, done-word, conversion-word, field-line, refusal, printed, question}
+use Rattle.convert.specs.Answers.{built}
 use Rattle.stream.specs.declared.machine.State.{State}
 use Rattle.stream.specs.declared.machine.Phase.{Phase}
 use Rattle.stream.specs.declared.machine.Phase.the-variants.{First, Refused, Second, Label, Text}
 
--- a conversion as a number: its place among the nine; 9 is none
-abbrev pub place-of : Option Conversion → ℕ
-place-of none = 9
-place-of (some to-simplified) = 0
-place-of (some to-nnf) = 1
-place-of (some to-pnf) = 2
-place-of (some to-snf) = 3
-place-of (some to-cnf) = 4
-place-of (some to-dnf) = 5
-place-of (some pnf-to-snf) = 6
-place-of (some snf-to-cnf) = 7
-place-of (some snf-to-dnf) = 8
+-- A conversion as a number: its place among those that are built. The place of the one that a first line names; past them all where it
+-- names none.
+unfoldable pub number-of : List Conversion → Bytes → ℕ
+number-of [] l = 0
+number-of (c ∷ cs) l = let n = number-of cs l in cond (same l (field-line do-word (conversion-word c))) 0 (suc n)
 
 abbrev pub conversion-at : ℕ → Conversion
-conversion-at n = getD conversions n to-simplified
+conversion-at n = getD built n to-simplified
 
 -- how a rule line begins
 abbrev pub rule-tab : Bytes
@@ -51,10 +44,10 @@ at s k = record { state = s; kept = k }
 -- The states. In the first line; behind a bad one, where all is skipped; in the second line; in a label; in a rule's text.
 -- `matched` is how many bytes of `rule` TAB the line has begun with; 5 where it has gone another way.
 abbrev pub first-line : ℕ → State
-first-line size = record { phase = First; conversion = 9; good = false; matched = 5; label = 0; size = size }
+first-line size = record { phase = First; conversion = 0; good = false; matched = 5; label = 0; size = size }
 
 abbrev pub refused-file : State
-refused-file = record { phase = Refused; conversion = 9; good = false; matched = 5; label = 0; size = 0 }
+refused-file = record { phase = Refused; conversion = 0; good = false; matched = 5; label = 0; size = 0 }
 
 abbrev pub second-line : ℕ → ℕ → State
 second-line c matched = record { phase = Second; conversion = c; good = false; matched = matched; label = 0; size = 0 }
@@ -67,7 +60,7 @@ in-text c good matched label size = record { phase = Text; conversion = c; good 
 
 -- behind a first line: a conversion was chosen, or none
 abbrev pub chosen : ℕ → State
-chosen c = cond (ltb c 9) (second-line c 0) refused-file
+chosen c = cond (ltb c (length built)) (second-line c 0) refused-file
 
 -- a byte is kept behind the others, where there is room
 abbrev pub grown : ℕ → Bytes → ℕ
@@ -88,7 +81,7 @@ room = 34845
 unfoldable pub first-step : Bytes → ℕ → ℕ → Machine
 first-step kept size b =
     cond (eqb b LF)
-    (record { state = chosen (place-of (conversion-of conversions (take size kept ++ (LF ∷ [])))); kept = kept })
+    (record { state = chosen (number-of built (take size kept ++ (LF ∷ []))); kept = kept })
     (cond (ltb size longest-first)
     (record { state = first-line (grown size kept); kept = set kept size b })
     (record { state = refused-file; kept = kept }))
@@ -157,10 +150,13 @@ abbrev pub opened : Machine → Machine
 opened m = record { state = in-label (m .state .conversion) 0; kept = m .kept }
 
 -- what is printed at the end of the input
+abbrev pub last-second : ℕ → ℕ → Print
+last-second c matched = cond (eqb matched 0) (done-print c) refusal-print
+
 abbrev pub last-in : Phase → Bytes → State → Print
 last-in First kept s = refusal-print
 last-in Refused kept s = refusal-print
-last-in Second kept s = cond (eqb (s .matched) 0) (done-print (s .conversion)) refusal-print
+last-in Second kept s = last-second (s .conversion) (s .matched)
 last-in Label kept s = rule-print (s .conversion) false [] []
 last-in Text kept s = rule-print (s .conversion) (s .good) (name-kept kept (s .label)) (text-kept kept (s .label) (s .size))
 

@@ -8,8 +8,8 @@ ghost use lib.ListN.{length, take, drop, set};
 ghost use Rattle.definitions.specs.Bytes.{Bytes, LF as lf};
 ghost use Rattle.definitions.specs.Limits.{house};
 ghost use Rattle.definitions.specs.RuleText.{simple-name, is-name};
-ghost use Rattle.definitions.specs.Program.{conversions, conversion-of};
-ghost use Rattle.stream.specs.Machine.{at, place-of, matches as matches-of, next-matched, grown, first-line, refused-file, second-line, in-label, in-text, chosen, first-step, second-step, label-step, text-step, step as step-of};
+ghost use Rattle.convert.specs.Answers.{built};
+ghost use Rattle.stream.specs.Machine.{at, number-of, matches as matches-of, next-matched, grown, first-line, refused-file, second-line, in-label, in-text, chosen, first-step, second-step, label-step, text-step, step as step-of};
 
 const TAB: u8 = 9;
 
@@ -19,6 +19,9 @@ const LF: u8 = 10;
 const FIRST: usize = 11;
 
 const LABEL: usize = 24;
+
+// How many conversions are built.
+const BUILT: usize = 2;
 
 // How `rule` TAB is counted: all five bytes; five also where a line has gone another way.
 const RULE: usize = 5;
@@ -32,7 +35,7 @@ pub enum Phase {
     Text,
 }
 
-// The conversion is its place among the nine. `good` is whether the label is, `matched` how many bytes of `rule` TAB the line has
+// The conversion is its place among those that are built. `good` is whether the label is, `matched` how many bytes of `rule` TAB the line has
 // begun with, `label` how long the label is, and `size` how many bytes are kept: the first line; or the label, and behind it the text.
 pub struct State {
     pub phase: Phase,
@@ -49,7 +52,7 @@ pub fn at_first(size: usize) -> State
 {
     State {
         phase: Phase::First,
-        conversion: 9,
+        conversion: 0,
         good: false,
         matched: RULE,
         label: 0,
@@ -63,7 +66,7 @@ fn refused() -> State
 {
     State {
         phase: Phase::Refused,
-        conversion: 9,
+        conversion: 0,
         good: false,
         matched: RULE,
         label: 0,
@@ -148,10 +151,9 @@ fn matched_behind(matched: usize, b: u8) -> usize
     RULE
 }
 
-// The place of the conversion that a first line without its LF names, 9 where it names none: the first three, then those from `snf` and
-// from `pnf-snf` on.
+// The place of the conversion that a first line without its LF names, past them all where it names none that is built.
 fn conversion(line: &[u8]) -> usize
-    ensures { λ r. ⌜ r ≡ place-of (conversion-of (drop 0 conversions) (now (line .entry) ++ (lf ∷ []))) ⌝ }
+    ensures { λ r. ⌜ r ≡ number-of built (now (line .entry) ++ (lf ∷ [])) ⌝ }
 {
     if names::same_name(line, b"do\tsimplify") {
         return 0;
@@ -159,45 +161,12 @@ fn conversion(line: &[u8]) -> usize
     if names::same_name(line, b"do\tnnf") {
         return 1;
     }
-    if names::same_name(line, b"do\tpnf") {
-        return 2;
-    }
-    conversion_snf(line)
-}
-
-fn conversion_snf(line: &[u8]) -> usize
-    ensures { λ r. ⌜ r ≡ place-of (conversion-of (drop 3 conversions) (now (line .entry) ++ (lf ∷ []))) ⌝ }
-{
-    if names::same_name(line, b"do\tsnf") {
-        return 3;
-    }
-    if names::same_name(line, b"do\tcnf") {
-        return 4;
-    }
-    if names::same_name(line, b"do\tdnf") {
-        return 5;
-    }
-    conversion_pnf_snf(line)
-}
-
-fn conversion_pnf_snf(line: &[u8]) -> usize
-    ensures { λ r. ⌜ r ≡ place-of (conversion-of (drop 6 conversions) (now (line .entry) ++ (lf ∷ []))) ⌝ }
-{
-    if names::same_name(line, b"do\tpnf-snf") {
-        return 6;
-    }
-    if names::same_name(line, b"do\tsnf-cnf") {
-        return 7;
-    }
-    if names::same_name(line, b"do\tsnf-dnf") {
-        return 8;
-    }
-    9
+    BUILT
 }
 
 // The same for the first line that is kept.
 fn kept_conversion(kept: &[u8], size: usize) -> usize
-    ensures { λ r. ⌜ r ≡ place-of (conversion-of conversions (take size (now (kept .entry)) ++ (lf ∷ []))) ⌝ }
+    ensures { λ r. ⌜ r ≡ number-of built (take size (now (kept .entry)) ++ (lf ∷ [])) ⌝ }
 {
     conversion(names::clip(kept, 0, size))
 }
@@ -213,7 +182,7 @@ fn kept_name(kept: &[u8], size: usize) -> bool
 fn behind_first(conversion: usize) -> State
     ensures { λ r. ⌜ r ≡ chosen conversion ⌝ }
 {
-    if conversion < 9 {
+    if conversion < BUILT {
         return at_second(conversion, 0);
     }
     refused()

@@ -1,0 +1,14 @@
+pub mod Numbers
+pub mod Related
+pub mod Planned
+pub mod Tokens
+pub mod Ordered
+pub mod Ranked
+pub mod Labelled
+pub mod Carry
+pub mod Raw
+pub mod Walking
+pub mod Comparing
+pub mod Collecting
+pub mod Growing
+pub mod Whole

@@ -1,0 +1,18 @@
+use borrow.Author.Needs.{needs}
+use native.Mathlib.Omega.{arith}
+use mathlib.Core.Path.{_≡_, sym, ap, _∙_}
+use borrow.Author.Tests.{eq-eqb, ne-eqb}
+use Rattle.clauses.specs.Plans.{form-of}
+use Rattle.clauses.proofs.plan.relabel.Statement.{statement}
+use Rattle.clauses.proofs.plan.relabel.Tie as tie
+
+pub relabel-spec : {M : Type 1} → statement M
+relabel-spec =
+    tie.close (tie.spec
+    (λ c. rw (ne-eqb (form-of (c .before .before .before .args .word)) 1 (c .if1 .taken)))  -- returns
+    (λ c κs. search needs)  -- number-requires
+    (λ c κs. search needs)  -- rank-requires
+    (λ c. omega arith)  -- mul-leaf
+    (λ c. omega arith)  -- add-leaf
+    (λ c κs. omega arith)  -- leaf-requires
+    (λ c. c .leaf .ensures ∙ rw (c .before .rank .ensures .1, c .before .before .number .ensures, eq-eqb (form-of (c .before .before .before .before .before .before .args .word)) 1 (c .before .before .before .if1 .left))))  -- returns-2

@@ -1,0 +1,11 @@
+-- Two lists whose elements belong together one by one, and the element at a place of a list.
+use mathlib.Core.List.{List, [], _∷_}
+use Prim.Native.Nat.{ℕ, zero, suc}
+
+pub data Each {A B : Type 0} (R : A → B → Type 0) : List A → List B → Type 0 where
+  none : Each R [] []
+  more : {x : A} {a : B} {l : List A} {m : List B} → R x a → Each R l m → Each R (x ∷ l) (a ∷ m)
+
+pub data At {A : Type 0} : List A → ℕ → A → Type 0 where
+  first : {a : A} {l : List A} → At (a ∷ l) zero a
+  later : {a b : A} {l : List A} {n : ℕ} → At l n a → At (b ∷ l) (suc n) a

@@ -1,0 +1,14 @@
+-- Each test leaves one place.
+use borrow.Author.Needs.{needs}
+use native.Mathlib.Omega.{arith}
+use mathlib.Core.Path.{sym}
+use Rattle.stream.proofs.PrintLaws.{at-place, past-places}
+use Rattle.stream.proofs.print.conversion_at.Statement.{statement}
+use Rattle.stream.proofs.print.conversion_at.Tie as tie
+
+pub conversion-at-spec : {M : Type 1} → statement M
+conversion-at-spec =
+    tie.close (tie.spec
+    (λ c. sym (at-place (c .before .args .place) 0 (omega arith) (omega arith)))  -- returns
+    (λ c. sym (at-place (c .before .before .args .place) 1 (omega arith) (omega arith)))  -- returns-2
+    (λ c. sym (past-places (c .before .before .args .place) (omega arith))))  -- returns-3

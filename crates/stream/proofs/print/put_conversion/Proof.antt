@@ -1,0 +1,24 @@
+-- Each test leaves one place, and its name has at most eight bytes.
+use borrow.Author.Needs.{needs}
+use native.Mathlib.Omega.{arith}
+use Rattle.definitions.specs.Convert.{to-simplified}
+use Rattle.stream.specs.Machine.{conversion-at}
+use Rattle.stream.proofs.PrintLaws.{word-put, at-place, past-places}
+use Rattle.stream.proofs.print.put_conversion.Statement.{statement}
+use Rattle.stream.proofs.print.put_conversion.Tie as tie
+
+pub put-conversion-spec : {M : Type 1} → statement M
+put-conversion-spec =
+    tie.close (tie.spec
+    (λ c. search needs)  -- slice-aggregate-put-run
+    (λ c κs. search needs)  -- put-run-requires
+    (λ c. search needs)  -- same-length
+    (λ c. let a = c .before .before .before .before .before .before .before .args in word-put _ _ _ _ (a .place) (conversion-at 0) (omega arith) (at-place (a .place) 0 (omega arith) (omega arith)) (c .before .before .put-run .ensures))  -- returns
+    (λ c. search needs)  -- slice-aggregate-put-run-2
+    (λ c κs. search needs)  -- put-run-requires-2
+    (λ c. search needs)  -- same-length-2
+    (λ c. let a = c .before .before .before .before .before .before .before .before .args in word-put _ _ _ _ (a .place) (conversion-at 1) (omega arith) (at-place (a .place) 1 (omega arith) (omega arith)) (c .before .before .put-run2 .ensures))  -- returns-2
+    (λ c. search needs)  -- slice-aggregate-put-run-3
+    (λ c κs. search needs)  -- put-run-requires-3
+    (λ c. search needs)  -- same-length-3
+    (λ c. let a = c .before .before .before .before .before .before .before .before .args in word-put _ _ _ _ (a .place) to-simplified (omega arith) (past-places (a .place) (omega arith)) (c .before .before .put-run3 .ensures)))  -- returns-3
