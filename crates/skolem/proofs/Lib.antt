@@ -1,0 +1,16 @@
+pub mod Lists
+pub mod OnePass
+pub mod Gathered
+pub mod Blocks
+pub mod Found
+pub mod Whole
+pub mod Maps
+pub mod WordLaws
+pub mod ScopeLaws
+pub mod NamingLaws
+pub mod Drawing
+pub mod FillLaws
+pub mod StageLaws
+pub mod StageEnds
+pub mod ShapeLaws
+pub mod LookLaws
