@@ -2,19 +2,19 @@
 use mathlib.Core.Path.{_≡_, refl, sym, ap, ap₂, _∙_}
 use mathlib.Core.Bool.{Bool, true, false, not, _&&_, _||_, cond, or-true}
 use mathlib.Core.List.{List, [], _∷_, _++_, map, append-assoc, append-nil}
-use Prim.Native.Nat.{ℕ, suc}
+use Prim.Native.Nat.{suc}
 use lib.ListN.{length}
 use Rattle.definitions.specs.Bytes.{same}
-use Rattle.definitions.specs.Syntax.{Name, var, Quant, Formula}
+use Rattle.definitions.specs.Syntax.{Name, Formula}
 use Rattle.definitions.specs.Names.{mem, free, bound}
-use Rattle.definitions.specs.Prenex.{fresh, Pairs, none, pair, olds, news, to, renames, next, sub, Prefix, plain, more, Prenex, close, add, shades, apart, as-subst, no-block}
+use Rattle.definitions.specs.Prenex.{fresh, Pairs, pair, olds, news, to, renames, next, sub, Prefix, plain, more, Prenex, close, add, shades, apart, as-subst, no-block}
 use Rattle.definitions.specs.Laws.Bools.{by-cases, clash, or-false-left, or-false-right, same-truth}
 use Rattle.definitions.specs.Laws.Sets.{same-eq, same-refl, mem-append}
 use Rattle.definitions.specs.Laws.Fresh.{fresh-new}
 use Rattle.definitions.specs.Laws.Prenex.{sub-no-block}
 use Rattle.text.specs.Words.{Token, var-token, sign, block-kind, code}
 use Rattle.text.specs.Prefixes.{names, prefix-code}
-use Rattle.prenex.specs.Walk.{put, Side, behind, is-free, reach, new-name, renamed, walk}
+use Rattle.prenex.specs.Walk.{put, behind, is-free, reach, new-name, walk}
 use Rattle.prenex.proofs.Fresh.{fresh-same}
 use Rattle.text.specs.PrefixLaws.{names-append, names-vars}
 use Rattle.prenex.proofs.Codes.{close-bound, close-free, ren, code-ren, shades-at}

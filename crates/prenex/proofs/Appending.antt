@@ -1,18 +1,17 @@
 -- Words written behind the matrix: one word, and a run of the source word by word.
 use mathlib.Core.Path.{_≡_, refl, sym, ap, ap₂, _∙_}
-use mathlib.Core.Bool.{Bool, true, false}
+use mathlib.Core.Bool.{false}
 use mathlib.Core.List.{List, [], _∷_, _++_, append-nil, append-assoc}
-use Prim.Native.Nat.{ℕ, suc, _+_, _-_, _≤_, _<_}
+use Prim.Native.Nat.{ℕ, _+_, _-_, _≤_, _<_}
 use native.Mathlib.Omega.{arith}
 use native.Mathlib.Numerals.{add-one}
-use lib.ListN.{length, take, drop, getD, set, length-set, length-map, length-append, length-drop}
+use lib.ListN.{length, take, getD, set, length-set, length-map, length-append, length-drop}
 use lib.Seq.{slice, slice-empty, take-suc-set, take-append-seam}
 use Rattle.definitions.specs.Bytes.{Bytes}
 use Rattle.definitions.specs.Laws.Bools.{clash}
 use Rattle.text.specs.Words.{Token, is-made, token, tokens}
 use Rattle.prenex.specs.Tables.{Known, AllKnown}
 use Rattle.prenex.specs.Writing.{Plain, Reads, Extends, Appends, written, no-room}
-use Rattle.prenex.specs.declared.write.Went.{Went}
 use Rattle.prenex.proofs.Splices.{part, slice-more}
 use Rattle.prenex.proofs.Words.{tokens-at, tokens-set}
 use Rattle.prenex.proofs.Putting.{set-known}

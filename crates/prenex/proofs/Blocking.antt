@@ -1,13 +1,13 @@
 -- A block behind the prefix: its head, then its variables one at a time, each in the slot of its place.
 use mathlib.Core.Path.{_≡_, refl, sym, ap, ap₂, _∙_}
-use mathlib.Core.Bool.{Bool, true, false, cond}
+use mathlib.Core.Bool.{Bool, true, false}
 use mathlib.Core.List.{List, [], _∷_, _++_, map, map-append, append-assoc, append-nil}
-use Prim.Native.Nat.{ℕ, zero, suc, _+_, _*_, _-_, _≤_, _<_, max}
+use Prim.Native.Nat.{ℕ, zero, suc, _+_, _*_, _≤_, _<_}
 use native.Mathlib.Omega.{arith}
 use native.Mathlib.Numerals.{add-one}
 use lib.Dec.{eqb}
-use lib.ListN.{length, take, drop, getD, set, length-set, length-map, List·getD-append, List·getD-map}
-use lib.Seq.{take-take, drop-drop, take-suc, take-all, getD-drop, getD-set-same, getD-set-other}
+use lib.ListN.{length, take, drop, getD, set, length-set, length-map, List·getD-append}
+use lib.Seq.{take-suc, take-all, getD-drop, getD-set-same, getD-set-other}
 use borrow.Author.Tests.{eqb-true, eqb-false}
 use Rattle.definitions.specs.Bytes.{Bytes}
 use Rattle.definitions.specs.Syntax.{Name}
@@ -15,8 +15,7 @@ use Rattle.definitions.specs.Prenex.{longest}
 use Rattle.definitions.specs.Laws.Bools.{by-cases}
 use Rattle.text.specs.Words.{Token, var-token, sign, is-made, kind-of, count-of, spell, token, tokens}
 use Rattle.prenex.specs.Tables.{Slot, Places}
-use Rattle.prenex.specs.Writing.{Plain, Reads, text-name, Between, Lays, BlockEnd, done, full, long, Blocks}
-use Rattle.prenex.specs.declared.write.Went.{Went}
+use Rattle.prenex.specs.Writing.{Plain, Reads, text-name, Between, Lays, done, full, long, Blocks}
 use Rattle.prenex.proofs.Putting.{set-known}
 use Rattle.prenex.proofs.Words.{tokens-at}
 use Rattle.prenex.proofs.Splices.{drop-further, take-nearer}

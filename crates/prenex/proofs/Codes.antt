@@ -2,11 +2,11 @@
 use mathlib.Core.Path.{_≡_, refl, sym, ap, ap₂, _∙_}
 use mathlib.Core.Bool.{Bool, true, false, not, _&&_, _||_, cond, and-true}
 use mathlib.Core.List.{List, [], _∷_, _++_, map, map-append}
-use Prim.Native.Nat.{ℕ, zero, suc, _+_}
-use Rattle.definitions.specs.Syntax.{Name, Term, var, con, app, Terms, nil, cons, count, Op, Quant, Formula, top, bot, pred, eq, neg, bin, blk}
+use Prim.Native.Nat.{ℕ, suc}
+use Rattle.definitions.specs.Syntax.{Name, Term, var, con, app, Terms, nil, cons, count, Quant, Formula, top, bot, pred, eq, neg, bin, blk}
 use Rattle.definitions.specs.Names.{mem, term-vars, terms-vars, free, bound}
 use Rattle.definitions.specs.Prenex.{Subst, shade, term-sub, terms-sub, sub, Prefix, plain, more, close, shades, no-block}
-use Rattle.definitions.specs.Laws.Bools.{by-cases, clash, and-true-left, and-true-right}
+use Rattle.definitions.specs.Laws.Bools.{clash, and-true-left, and-true-right}
 use Rattle.definitions.specs.Laws.Sets.{mem-append, mem-union, mem-filter}
 use Rattle.text.specs.Words.{Token, var-token, sign, term-code, terms-code, op-kind, code}
 use Rattle.text.specs.Prefixes.{names, prefix-code}

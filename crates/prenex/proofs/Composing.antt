@@ -1,26 +1,22 @@
 -- How the ends of runs come together: a run behind a word, a run behind a block, and two runs with the renaming behind them.
-use mathlib.Core.Path.{_≡_, refl, sym, ap, ap₂, _∙_}
-use mathlib.Core.Bool.{Bool, true, false, cond}
-use mathlib.Core.List.{List, [], _∷_, _++_, map, append-assoc, append-nil}
-use Prim.Native.Nat.{ℕ, zero, suc, _+_, _*_, _-_, _≤_, _<_, max}
+use mathlib.Core.Path.{_≡_, sym, ap, ap₂, _∙_}
+use mathlib.Core.List.{List, [], _∷_, _++_, map, append-assoc}
+use Prim.Native.Nat.{ℕ, _+_, _≤_}
 use native.Mathlib.Omega.{arith}
 use lib.ListN.{length, take, drop, length-append, length-map}
 use lib.Seq.{slice, length-take-le, take-take, take-at, drop-at}
 use Rattle.definitions.specs.Bytes.{Bytes}
 use Rattle.definitions.specs.Syntax.{Name}
 use Rattle.definitions.specs.Prenex.{longest}
-use Rattle.text.specs.Words.{Token, var-token, sign, token, tokens}
+use Rattle.text.specs.Words.{Token, var-token, sign, tokens}
 use Rattle.text.specs.Prefixes.{names}
 use Rattle.prenex.specs.Walk.{Side, left-apart, right-apart}
-use Rattle.prenex.specs.Tables.{Ready}
-use Rattle.prenex.specs.Renaming.{splice, Walks, held, Halves, joined, both-apart}
-use Rattle.prenex.specs.Writing.{widest-name, End, done, full, long, Extends, Appends, written, no-room, BlockEnd, Blocks, Between, Safe}
+use Rattle.prenex.specs.Renaming.{both-apart}
+use Rattle.prenex.specs.Writing.{widest-name, End, done, full, long, Appends, written, no-room, BlockEnd}
 use Rattle.prenex.specs.declared.write.Went.{Went}
 use Rattle.text.specs.PrefixLaws.{names-append, names-vars}
 use Rattle.prenex.proofs.Grown.{prefix-grows, matrix-grows}
 use Rattle.prenex.proofs.Joins.{walk-prefix-length, walk-matrix-length, longest-left, longest-right}
-use Rattle.prenex.proofs.Splices.{splice-front}
-use Rattle.prenex.proofs.Words.{tokens-kept}
 
 -- a part that is known to be written ends where its length says
 pub ended : (X Y l : List Token) (m n : ℕ) → m ≤ length X → n ≤ length Y → take m X ≡ take n Y ++ l → m ≡ n + length l

@@ -1,8 +1,7 @@
 -- Names only grow: what is over the limit once stays over it to the end.
-use mathlib.Core.Path.{_≡_, refl, sym, ap, _∙_}
-use mathlib.Core.Bool.{Bool, true, false, cond}
+use mathlib.Core.Path.{ap}
 use mathlib.Core.List.{List, [], _∷_, _++_, map}
-use Prim.Native.Nat.{ℕ, _≤_, _<_, max}
+use Prim.Native.Nat.{_≤_}
 use native.Mathlib.Omega.{arith}
 use lib.ListN.{length}
 use Rattle.definitions.specs.Bytes.{same}
@@ -13,7 +12,7 @@ use Rattle.definitions.specs.Laws.Bools.{by-cases}
 use Rattle.definitions.specs.Laws.Sets.{same-eq}
 use Rattle.text.specs.Words.{Token, var-token, sign}
 use Rattle.text.specs.Prefixes.{names}
-use Rattle.prenex.specs.Walk.{put, Side, is-free, reach, new-name, renamed, walk}
+use Rattle.prenex.specs.Walk.{put, is-free, reach, new-name, renamed, walk}
 use Rattle.prenex.proofs.Fresh.{fresh-longer}
 
 put-grows : (x w : Name) (m : List Token) → length x ≤ length w → longest (names m) ≤ longest (names (map (put x w) m))

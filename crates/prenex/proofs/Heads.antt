@@ -1,13 +1,13 @@
 -- The head of a block: its word carries the kind and the count alone. The kinds of the two blocks are neighbours.
-use mathlib.Core.Path.{_≡_, refl, sym, ap, _∙_}
+use mathlib.Core.Path.{_≡_, sym, ap, _∙_}
 use mathlib.Core.Bool.{Bool, true, false}
-use mathlib.Core.List.{List, []}
+use mathlib.Core.List.{[]}
 use Prim.Native.Nat.{ℕ, _+_, _-_, _/_, _%_, _≤_, _<_}
 use native.Mathlib.Omega.{arith}
 use borrow.Author.Tests.{ne-eqb}
 use Rattle.definitions.specs.Bytes.{Bytes}
 use Rattle.definitions.specs.Syntax.{Quant, all, ex}
-use Rattle.text.specs.Words.{Token, sign, token, kind-of, count-of, size-of, is-made, block-kind}
+use Rattle.text.specs.Words.{sign, token, kind-of, count-of, size-of, is-made, block-kind}
 use Rattle.prenex.specs.Walk.{turning}
 use Rattle.prenex.specs.Outward.{Turned}
 use Rattle.prenex.proofs.Streams.{told, kind-told, count-told, token-kind}

@@ -1,8 +1,8 @@
 -- Two walks, one after the other: the left side apart from the right, then the right side apart from the left matrix.
-use mathlib.Core.Path.{_≡_, refl, sym, ap, ap₂, _∙_}
-use mathlib.Core.Bool.{Bool, true, false, cond}
+use mathlib.Core.Path.{_≡_, refl, ap, _∙_}
+use mathlib.Core.Bool.{Bool, true, false}
 use mathlib.Core.List.{List, [], _∷_, _++_, append-assoc}
-use Prim.Native.Nat.{ℕ, suc, _+_, _-_, _≤_, _<_, max}
+use Prim.Native.Nat.{ℕ, suc, _-_, _≤_}
 use native.Mathlib.Omega.{arith}
 use lib.ListN.{length, take, drop, length-map}
 use lib.Seq.{slice, slice-empty, length-slice}
@@ -11,11 +11,11 @@ use Rattle.definitions.specs.Syntax.{Name}
 use Rattle.definitions.specs.Names.{mem}
 use Rattle.definitions.specs.Prenex.{longest}
 use Rattle.definitions.specs.Laws.Bools.{clash}
-use Rattle.text.specs.Words.{Token, var-token, sign, token, tokens}
+use Rattle.text.specs.Words.{Token, var-token, sign, tokens}
 use Rattle.text.specs.Prefixes.{names}
-use Rattle.prenex.specs.Walk.{Side, new-name, renamed, walk, left-apart, right-apart}
+use Rattle.prenex.specs.Walk.{Side, new-name, renamed, walk}
 use Rattle.prenex.specs.Tables.{Ready}
-use Rattle.prenex.specs.Renaming.{splice, Bounds, under, over, Walks, apart-side, held, Halves, joined, both-apart}
+use Rattle.prenex.specs.Renaming.{splice, Bounds, under, over, Walks, apart-side, held, Halves, both-apart}
 use Rattle.text.specs.PrefixLaws.{names-append}
 use Rattle.prenex.proofs.Splices.{drop-further, beside-kept, splice-take, splice-drop, splice-front, splice-slice}
 use Rattle.prenex.proofs.Place.{put-length}

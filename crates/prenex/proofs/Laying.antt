@@ -1,19 +1,18 @@
 -- A name laid into its slot, and the variable that points there put at its place. What lies before and behind the slot stays.
 use mathlib.Core.Path.{_≡_, refl, sym, ap, ap₂, _∙_}
-use mathlib.Core.Bool.{Bool, true, false}
+use mathlib.Core.Bool.{true, false}
 use mathlib.Core.List.{List, [], _∷_, _++_, append-assoc}
 use Prim.Native.Nat.{ℕ, zero, suc, _+_, _*_, _-_, _≤_, _<_}
 use native.Mathlib.Omega.{arith}
-use native.Mathlib.Numerals.{add-one}
 use lib.Dec.{eqb}
 use lib.ListN.{length, take, drop, getD, set, replicate, length-set, length-append, length-replicate, getD-replicate, List·getD-append}
-use lib.Seq.{paste, length-paste, drop-paste, length-take-le, take-at, drop-at, take-all, take-take, take-append-le, take-append-seam, getD-take, getD-drop, getD-append-add, getD-set-same, getD-set-other}
+use lib.Seq.{paste, length-paste, drop-paste, length-take-le, take-at, drop-at, take-take, take-append-le, take-append-seam, getD-take, getD-drop, getD-append-add, getD-set-same, getD-set-other}
 use borrow.Author.Tests.{eqb-true, eqb-false}
 use Rattle.definitions.specs.Bytes.{Bytes}
 use Rattle.definitions.specs.Syntax.{Name}
 use Rattle.definitions.specs.Laws.Bools.{by-cases, clash}
-use Rattle.text.specs.Words.{Token, var-token, kind-of, size-of, start-of, spell, token, tokens}
-use Rattle.prenex.specs.Tables.{slot-word, padded, Slot, Slots, Known, AllKnown, Places}
+use Rattle.text.specs.Words.{Token, var-token, kind-of, spell, tokens}
+use Rattle.prenex.specs.Tables.{slot-word, padded, Slot, Known, AllKnown, Places}
 use Rattle.prenex.specs.Writing.{Between, Lays, text-name}
 use Rattle.prenex.proofs.Words.{token-var, tokens-kept}
 use Rattle.prenex.proofs.Putting.{set-known}

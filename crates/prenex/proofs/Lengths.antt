@@ -1,16 +1,15 @@
 -- Names over the limit, looked for one word at a time; and the tables and the source as the walk over a whole rule finds them.
 use mathlib.Core.Path.{_≡_, refl, sym, ap, ap₂, _∙_}
 use mathlib.Core.Bool.{Bool, true, false}
-use mathlib.Core.List.{List, [], _∷_, _++_, map, map-append}
-use Prim.Native.Nat.{ℕ, zero, suc, _+_, _*_, _≤_, _<_, max}
+use mathlib.Core.List.{List, [], _∷_, _++_, map-append}
+use Prim.Native.Nat.{ℕ, zero, suc, _+_, _≤_, _<_, max}
 use native.Mathlib.Omega.{arith}
 use native.Mathlib.Numerals.{add-one}
-use lib.Dec.{leb, ltb}
+use lib.Dec.{ltb}
 use lib.ListN.{length, take, drop, getD, replicate, length-map, length-take, length-replicate, take-append-drop}
 use lib.Seq.{slice, slice-cons, getD-take}
 use borrow.Author.Tests.{le-ltb, lt-ltb, ltb-true, ltb-false}
 use Rattle.definitions.specs.Bytes.{Bytes}
-use Rattle.definitions.specs.Limits.{house}
 use Rattle.definitions.specs.Syntax.{Formula}
 use Rattle.definitions.specs.Prenex.{longest}
 use Rattle.definitions.specs.Laws.Bools.{by-cases, clash}
@@ -18,7 +17,7 @@ use Rattle.text.specs.declared.table.Table.{Table}
 use Rattle.text.specs.Tables.{Holds}
 use Rattle.text.specs.Words.{Token, is-made, kind-of, spell, token, tokens, code}
 use Rattle.text.specs.Prefixes.{names}
-use Rattle.prenex.specs.Tables.{AllKnown, Ready}
+use Rattle.prenex.specs.Tables.{AllKnown}
 use Rattle.prenex.specs.Writing.{Plain, Reads}
 use Rattle.prenex.specs.Outward.{Begins}
 use Rattle.prenex.specs.Stage.{Judges}

@@ -1,17 +1,17 @@
 -- Both sides of a binary node, each renamed apart from the other as its tables hold it, are `merge`: the left prefix, flipped where it is a
 -- premise, before the right one. Quantifiers have no part in renaming, so a sign may flip the blocks before or after it.
 use mathlib.Core.Path.{_≡_, refl, sym, ap, ap₂, _∙_}
-use mathlib.Core.Bool.{Bool, true, false, not, cond}
+use mathlib.Core.Bool.{Bool, true, false, not}
 use mathlib.Core.List.{List, [], _∷_, _++_, map, append-assoc}
 use lib.ListN.{length}
-use Rattle.definitions.specs.Syntax.{Name, Op, and, or, imp, iff, Quant, all, ex, Formula, bin}
+use Rattle.definitions.specs.Syntax.{Op, and, or, imp, iff, Quant, all, ex, Formula, bin}
 use Rattle.definitions.specs.Names.{free, bound}
 use Rattle.definitions.specs.Negation.{flip}
 use Rattle.definitions.specs.Prenex.{news, Subst, shade, sub, Prefix, plain, more, Prenex, close, add, shades, apart, as-subst, premise, pull-right, pull, merge, flips, no-block}
 use Rattle.definitions.specs.Laws.Prenex.{sub-no-block}
 use Rattle.text.specs.Words.{Token, var-token, sign, op-kind, block-kind, code}
 use Rattle.text.specs.Prefixes.{prefix-code}
-use Rattle.prenex.specs.Walk.{Side, walk, left-apart, right-apart, turning, left-sign, each, coded}
+use Rattle.prenex.specs.Walk.{Side, left-apart, right-apart, turning, left-sign, each, coded}
 use Rattle.prenex.proofs.Apart.{aside, aside-walk}
 
 unfoldable join : (Quant → Quant) → Prefix → Prefix → Prefix

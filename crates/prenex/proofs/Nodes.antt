@@ -2,24 +2,21 @@
 use mathlib.Core.Path.{_≡_, refl, sym, ap, ap₂, subst, _∙_}
 use mathlib.Core.Bool.{Bool, true, false}
 use mathlib.Core.List.{List, [], _∷_, _++_, append-assoc}
-use Prim.Native.Nat.{ℕ, _+_, _*_, _-_, _≤_, _<_}
+use Prim.Native.Nat.{ℕ, _+_, _*_, _≤_}
 use native.Mathlib.Omega.{arith}
 use lib.ListN.{length, take, length-map}
-use lib.Seq.{slice, length-take-le}
+use lib.Seq.{length-take-le}
 use Rattle.definitions.specs.Bytes.{Bytes}
-use Rattle.definitions.specs.Prenex.{longest}
 use Rattle.text.specs.Words.{Token, tokens}
-use Rattle.text.specs.Prefixes.{names}
 use Rattle.prenex.specs.Walk.{Side}
 use Rattle.prenex.specs.Tables.{Ready}
-use Rattle.prenex.specs.Renaming.{splice, Walks, held, Halves, both-apart}
-use Rattle.prenex.specs.Writing.{widest-name, End, done, full, long, Extends, Appends, Between, Safe}
+use Rattle.prenex.specs.Renaming.{Walks, held, Halves, both-apart}
+use Rattle.prenex.specs.Writing.{End, done, full, long, Extends, Appends, Between, Safe}
 use Rattle.prenex.specs.Outward.{Begins}
 use Rattle.prenex.specs.declared.write.Went.{Went}
 use Rattle.prenex.proofs.Splices.{splice-front}
 use Rattle.prenex.proofs.Blocking.{between-none, between-on}
-use Rattle.prenex.proofs.Laying.{known-more}
-use Rattle.prenex.proofs.Composing.{ended, first-part, second-part, third-part, topped, topped-name, put-there, node-side, left-name, right-name, node-prefix-length, both-matrix-length, node-matrix-length}
+use Rattle.prenex.proofs.Composing.{ended, first-part, second-part, third-part, topped-name, put-there, node-side, left-name, right-name, node-prefix-length, both-matrix-length, node-matrix-length}
 
 -- Whatever the source holds.
 pub safe-put : {M : Bytes} {P : List ℕ} {n : ℕ} {W : List ℕ} {used : ℕ} {W₁ : List ℕ} {h : Went} → Ready M P n W → Extends n W used W₁ h → Safe M n used M P W₁ h

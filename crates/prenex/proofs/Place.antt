@@ -1,13 +1,13 @@
 -- One variable of a prefix, at its place: not free in the other side, or free with a new name, or free with one that is too long.
 use mathlib.Core.Path.{_≡_, refl, sym, ap, ap₂, _∙_}
-use mathlib.Core.Bool.{Bool, true, false, not, cond, _&&_}
-use mathlib.Core.List.{List, [], _∷_, _++_, map}
+use mathlib.Core.Bool.{Bool, true, false, cond}
+use mathlib.Core.List.{List, [], _∷_, map}
 use Prim.Native.Nat.{ℕ, suc, _+_, _*_, _-_, _≤_, _<_}
 use native.Mathlib.Omega.{arith}
 use native.Mathlib.Numerals.{add-one}
 use borrow.Author.Tests.{eqb-true, eqb-false}
 use lib.Dec.{eqb}
-use lib.ListN.{length, take, drop, getD, set, length-set, length-map}
+use lib.ListN.{length, getD, set, length-set, length-map}
 use lib.Seq.{slice, slice-cons, length-slice, set-getD, getD-set-same, getD-set-other}
 use Rattle.definitions.specs.Bytes.{Bytes, same}
 use Rattle.definitions.specs.Syntax.{Name}
@@ -17,8 +17,8 @@ use Rattle.definitions.specs.Laws.Bools.{by-cases, clash}
 use Rattle.definitions.specs.Laws.Sets.{same-eq}
 use Rattle.text.specs.Words.{Token, var-token, sign, kind-of, size-of, start-of, spell, token, tokens}
 use Rattle.text.specs.Prefixes.{names}
-use Rattle.prenex.specs.Walk.{put, is-free, reach, new-name, renamed}
-use Rattle.prenex.specs.Tables.{slot-word, Slot, Slots, Known, AllKnown, Ready}
+use Rattle.prenex.specs.Walk.{put, is-free, reach, new-name}
+use Rattle.prenex.specs.Tables.{Slot, Slots, Known, AllKnown, Ready}
 use Rattle.prenex.specs.Renaming.{splice, all-names, Named, Bounds, Spot, RenamesAt}
 use Rattle.text.specs.PrefixLaws.{names-append}
 use Rattle.prenex.proofs.Splices.{slice-append, three-parts, splice-length}

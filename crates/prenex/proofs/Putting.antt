@@ -1,13 +1,13 @@
 -- A name put for another in a run of words, one word at a time. X is what the table W has become when the words up to i are done.
 use mathlib.Core.Path.{_≡_, refl, sym, ap, ap₂, _∙_}
-use mathlib.Core.Bool.{Bool, true, false, cond}
+use mathlib.Core.Bool.{true, false}
 use mathlib.Core.List.{List, [], _∷_, _++_, map, map-append}
 use Prim.Native.Nat.{ℕ, zero, suc, _+_, _-_, _≤_, _<_}
 use native.Mathlib.Omega.{arith}
-use lib.ListN.{length, take, drop, getD, set, length-set, length-map, take-append-drop}
+use lib.ListN.{length, getD, set, length-set, length-map, take-append-drop}
 use lib.Seq.{slice, slice-empty, length-slice}
 use Rattle.definitions.specs.Bytes.{Bytes, same}
-use Rattle.text.specs.Words.{Token, var-token, sign, kind-of, spell, token, tokens}
+use Rattle.text.specs.Words.{Token, var-token, kind-of, spell, token, tokens}
 use Rattle.prenex.specs.Walk.{put}
 use Rattle.prenex.specs.Tables.{Known, AllKnown}
 use Rattle.prenex.specs.Renaming.{splice}

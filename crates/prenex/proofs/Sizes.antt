@@ -2,32 +2,31 @@
 use mathlib.Core.Path.{_≡_, refl, sym, ap, ap₂, _∙_}
 use mathlib.Core.Bool.{Bool, true, false, not, _&&_, _||_}
 use mathlib.Core.List.{List, [], _∷_, _++_, map, append-assoc}
-use Prim.Native.Nat.{ℕ, _+_, _*_, _≤_, _<_, max}
+use Prim.Native.Nat.{ℕ, _+_, _≤_, _<_, max}
 use native.Mathlib.Omega.{arith}
-use lib.Dec.{leb, ltb}
+use lib.Dec.{leb}
 use lib.ListN.{length, length-append, length-map}
-use borrow.Author.Tests.{le-leb, lt-leb, le-ltb, lt-ltb, leb-true, leb-false}
-use Rattle.definitions.specs.Syntax.{Name, Op, and, or, imp, iff, Quant, Formula, top, bot, pred, eq, neg, bin, blk, weight}
+use borrow.Author.Tests.{le-leb, lt-leb, leb-true, leb-false}
+use Rattle.definitions.specs.Syntax.{Name, Op, and, or, imp, iff, Formula, top, bot, pred, eq, neg, bin, blk, weight}
 use Rattle.definitions.specs.Bytes.{same}
 use Rattle.definitions.specs.Limits.{house}
 use Rattle.definitions.specs.Names.{mem, free, bound}
 use Rattle.definitions.specs.Truth.{every}
-use Rattle.definitions.specs.Prenex.{longest, Prefix, plain, more, Prenex, close, formula, merge, outward, flips, no-block}
+use Rattle.definitions.specs.Prenex.{longest, Prefix, plain, more, Prenex, close, formula, merge, outward, no-block}
 use Rattle.definitions.specs.Convert.{too-long}
-use Rattle.definitions.specs.Laws.Bools.{by-cases, clash, or-left, or-right}
+use Rattle.definitions.specs.Laws.Bools.{or-right}
 use Rattle.definitions.specs.Laws.Sets.{mem-append, mem-head}
 use Rattle.definitions.specs.Laws.Prenex.{outward-no-block}
-use Rattle.text.specs.Words.{Token, var-token, sign, block-kind, op-kind, terms-code, term-code, code}
+use Rattle.text.specs.Words.{Token, var-token, sign, block-kind, op-kind, term-code, code}
 use Rattle.text.specs.Weights.{term-words, terms-words, words-weight}
 use Rattle.text.specs.Prefixes.{names, prefix-code}
 use Rattle.prenex.specs.Walk.{Side, turning, left-sign, each, coded}
 use Rattle.prenex.specs.Weights.{outward-weight}
 use Rattle.prenex.specs.Writing.{widest-name}
-use Rattle.prenex.proofs.Codes.{close-bound, close-free, code-names}
+use Rattle.prenex.proofs.Codes.{close-bound, close-free}
 use Rattle.prenex.proofs.Fresh.{mem-longest}
 use Rattle.prenex.proofs.Merged.{merge-prefix, merge-matrix, turned-flips}
 use Rattle.prenex.proofs.Composing.{node-prefix-length, node-matrix-length}
-use Rattle.prenex.proofs.Joins.{longest-left, longest-right}
 
 abbrev size : Side → ℕ
 size s = length (s .prefix) + length (s .matrix)

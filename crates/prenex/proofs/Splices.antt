@@ -1,13 +1,13 @@
 -- Lists, part of which has been replaced: read, written on, and put together.
-use mathlib.Core.Path.{_≡_, refl, sym, ap, ap₂, _∙_}
-use mathlib.Core.List.{List, [], _∷_, _++_, append-assoc, append-nil, map}
+use mathlib.Core.Path.{_≡_, sym, ap, _∙_}
+use mathlib.Core.List.{List, [], _∷_, _++_, append-assoc}
 use Prim.Native.Nat.{ℕ, zero, suc, _+_, _-_, _≤_, _<_}
 use native.Mathlib.Omega.{arith}
 use native.Mathlib.Nat.{suc-add, zero-add}
 use native.Mathlib.Numerals.{add-one}
 use lib.Dec.{leb}
-use lib.ListN.{length, take, drop, getD, set, length-append, length-take, length-drop, length-map, take-append-drop, drop-of-length-le}
-use lib.Seq.{slice, slice-empty, length-slice, length-take-le, drop-cons, take-suc, take-nil, take-take, drop-drop, drop-append-le, take-at, drop-at, getD-at, set-at, take-suc-set, take-set-lt, drop-set-lt}
+use lib.ListN.{length, take, drop, getD, set, length-append, length-take, length-drop, take-append-drop, drop-of-length-le}
+use lib.Seq.{slice, length-take-le, drop-cons, take-suc, take-nil, take-take, drop-drop, drop-append-le, take-at, drop-at, getD-at, set-at, take-suc-set, take-set-lt, drop-set-lt}
 use borrow.Author.Tests.{leb-true, leb-false}
 use Rattle.definitions.specs.Laws.Bools.{by-cases}
 use Rattle.text.specs.Words.{Token}

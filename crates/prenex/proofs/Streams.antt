@@ -1,17 +1,17 @@
 -- Formulae read from a table of words: a formula is told by the kind of its first word, and behind its last the rest goes on.
 use mathlib.Core.Path.{_≡_, refl, sym, ap, _∙_}
 use mathlib.Core.Bool.{Bool, true, false, cond}
-use mathlib.Core.List.{List, [], _∷_, _++_, map, append-nil, append-assoc}
-use Prim.Native.Nat.{ℕ, zero, suc, _+_, _-_, _*_, _<_, _≤_}
+use mathlib.Core.List.{List, [], _∷_, _++_, map}
+use Prim.Native.Nat.{ℕ, zero, suc, _+_, _-_, _<_, _≤_}
 use native.Mathlib.Omega.{arith}
 use native.Mathlib.Numerals.{add-one}
 use borrow.Author.Tests.{eqb-true, ne-eqb}
 use lib.Dec.{eqb}
-use lib.ListN.{length, drop, getD, List·getD-eq-default, length-append, length-map, length-drop, drop-of-length-le}
+use lib.ListN.{length, drop, getD, List·getD-eq-default, length-append, drop-of-length-le}
 use lib.Seq.{drop-cons, drop-drop, drop-append-seam}
 use Rattle.definitions.specs.Bytes.{Bytes}
 use Rattle.definitions.specs.Limits.{house}
-use Rattle.definitions.specs.Syntax.{Name, Term, Terms, count, Op, and, or, imp, iff, Quant, all, ex, Formula, top, bot, pred, eq, neg, bin, blk, weight}
+use Rattle.definitions.specs.Syntax.{Name, Term, Terms, count, and, or, imp, iff, Quant, all, ex, Formula, top, bot, pred, eq, neg, bin, blk, weight}
 use Rattle.text.specs.Words.{Token, var-token, sign, token, tokens, spell, kind-of, count-of, term-code, terms-code, op-kind, block-kind, code}
 
 -- a formula's first token, and the tokens behind it
@@ -107,14 +107,7 @@ module _ (T M : Bytes) {S : List ℕ} {at : ℕ} (G : Formula → List Token →
       each f (λ f. (rest : List Token) → token T M (getD S at 0) ≡ head f → tokens T M (drop (at + 1) S) ≡ parts f ++ rest → G f rest) k
       (sym (ap token-kind (y .0)) ∙ kind-told T M (getD S at 0) ∙ h .kind) below rest (y .0) (y .1)
 
-  -- top and bottom, the three operators that stay, and the two blocks, told by one test
-  pub constant : (k : ℕ) → At S at k → k ≤ 1
-      → ((f : Formula) → parts f ≡ [] → (rest : List Token) → token T M (getD S at 0) ≡ head f → G f rest)
-      → (f : Formula) (rest : List Token) → tokens T M (drop at S) ≡ code f ++ rest → G f rest
-  constant zero h l s = node 0 h (λ rest w x. s top refl rest w)
-  constant (suc zero) h l s = node 1 h (λ rest w x. s bot refl rest w)
-  constant (suc (suc k)) h l s = absurd (omega arith)
-
+  -- the two blocks, told by one test
   pub block-node : (k : ℕ) → At S at k → 7 < k → k ≤ 9
       → ((q : Quant) (vs : List Name) (a : Formula) (rest : List Token) → token T M (getD S at 0) ≡ head (blk q vs a) → tokens T M (drop (at + 1) S) ≡ (map var-token vs ++ code a) ++ rest → G (blk q vs a) rest)
       → (f : Formula) (rest : List Token) → tokens T M (drop at S) ≡ code f ++ rest → G f rest

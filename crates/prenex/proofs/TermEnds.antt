@@ -1,17 +1,16 @@
 -- Terms one word at a time: behind a term's word stand its arguments, so the terms that are due after it are one fewer and its arguments
 -- more.
-use mathlib.Core.Path.{_≡_, refl, sym, ap, _∙_}
+use mathlib.Core.Path.{_≡_, refl, ap, _∙_}
 use mathlib.Core.Bool.{Bool, true, false, cond}
-use mathlib.Core.List.{List, [], _∷_, _++_, append-assoc}
-use Prim.Native.Nat.{ℕ, suc, _+_, _-_, _*_, _<_, _≤_}
+use mathlib.Core.List.{List, _∷_, _++_, append-assoc}
+use Prim.Native.Nat.{ℕ, _+_, _-_, _<_, _≤_}
 use native.Mathlib.Omega.{arith}
 use borrow.Author.Tests.{ne-eqb}
 use lib.Dec.{eqb}
-use lib.ListN.{length, drop, getD, length-append, drop-of-length-le}
+use lib.ListN.{length, getD, length-append, drop-of-length-le}
 use Rattle.definitions.specs.Bytes.{Bytes}
-use Rattle.definitions.specs.Limits.{house}
-use Rattle.definitions.specs.Syntax.{Term, var, con, app, Terms, nil, cons, count, term-weight, terms-weight}
-use Rattle.text.specs.Words.{Token, var-token, sign, token, tokens, spell, kind-of, count-of, term-code, terms-code}
+use Rattle.definitions.specs.Syntax.{var, con, app, Terms, nil, cons, count, term-weight, terms-weight}
+use Rattle.text.specs.Words.{Token, var-token, sign, token, spell, kind-of, count-of, term-code, terms-code}
 use Rattle.prenex.specs.Streams.{behind}
 use Rattle.prenex.specs.Weights.{Ends}
 use Rattle.prenex.proofs.Streams.{behind-head}

@@ -1,21 +1,21 @@
 -- The walk over a rule, node by node: what each kind of node comes to, from what its parts come to.
 use mathlib.Core.Path.{_≡_, refl, sym, ap, ap₂, subst, _∙_}
-use mathlib.Core.Bool.{Bool, true, false, not}
+use mathlib.Core.Bool.{Bool, true, not}
 use mathlib.Core.List.{List, [], _∷_, _++_, map, append-assoc, append-nil}
 use Prim.Native.Nat.{ℕ, zero, suc, _+_, _*_, _≤_, _<_}
 use native.Mathlib.Omega.{arith}
 use lib.ListN.{length, take, drop, getD, length-append, length-map}
 use Rattle.definitions.specs.Bytes.{Bytes}
-use Rattle.definitions.specs.Syntax.{Name, Op, and, or, imp, iff, Quant, all, ex, Formula, top, bot, pred, eq, neg, bin, blk, weight}
+use Rattle.definitions.specs.Syntax.{Name, Op, and, or, imp, iff, Quant, all, ex, Formula, neg, bin, blk}
 use Rattle.definitions.specs.Prenex.{Prenex, merge, outward, no-block}
 use Rattle.definitions.specs.Laws.Prenex.{outward-no-block}
-use Rattle.text.specs.Words.{Token, var-token, sign, token, tokens, kind-of, count-of, op-kind, block-kind, code}
+use Rattle.text.specs.Words.{Token, var-token, sign, token, tokens, count-of, op-kind, block-kind, code}
 use Rattle.text.specs.Weights.{words-weight}
 use Rattle.text.specs.Prefixes.{prefix-code}
 use Rattle.prenex.specs.Walk.{Side, turning, left-sign, each, coded}
 use Rattle.prenex.specs.Tables.{Ready}
 use Rattle.prenex.specs.Weights.{Weighs}
-use Rattle.prenex.specs.Writing.{Plain, Reads, End, done, full, Extends, Appends, written, no-room, Between, BlockEnd, Blocks, Safe}
+use Rattle.prenex.specs.Writing.{Plain, Reads, End, done, full, Extends, Appends, written, no-room, BlockEnd, Blocks, Safe}
 use Rattle.prenex.specs.Outward.{Begins, Runs, RunsBoth, over, both-ways, Turned}
 use Rattle.prenex.specs.declared.weight.Weighed.{Weighed}
 use Rattle.prenex.specs.declared.write.Went.{Went}

@@ -1,19 +1,19 @@
 -- The weight of a node from its parts'. A part's clamped weight is enough: what is added to it only passes the limit further.
 use mathlib.Core.Path.{_≡_, refl, sym, ap, _∙_}
-use mathlib.Core.List.{List, [], _∷_, _++_, map, append-assoc, append-nil}
-use Prim.Native.Nat.{ℕ, zero, suc, _+_, _-_, _*_, _<_, _≤_, min}
+use mathlib.Core.List.{List, [], _++_, map, append-assoc, append-nil}
+use Prim.Native.Nat.{ℕ, zero, suc, _+_, _-_, _*_, _<_, _≤_}
 use native.Mathlib.Omega.{arith}
 use lib.Dec.{leb}
-use lib.ListN.{length, drop, getD, length-append, length-map}
+use lib.ListN.{length, drop, getD, length-map}
 use borrow.Author.Tests.{leb-true, leb-false}
 use Rattle.definitions.specs.Bytes.{Bytes}
-use Rattle.definitions.specs.Syntax.{Name, Term, Terms, nil, cons, count, term-weight, terms-weight, Op, and, or, imp, iff, Quant, all, ex, Formula, top, bot, pred, eq, neg, bin, blk, weight}
+use Rattle.definitions.specs.Syntax.{Name, Term, Terms, nil, cons, count, term-weight, terms-weight, Op, and, or, imp, Quant, all, ex, Formula, top, bot, bin, weight}
 use Rattle.definitions.specs.Laws.Bools.{by-cases}
-use Rattle.text.specs.Words.{Token, var-token, sign, token, tokens, kind-of, count-of, term-code, terms-code, block-kind, code}
+use Rattle.text.specs.Words.{Token, var-token, sign, token, tokens, count-of, term-code, terms-code, block-kind, code}
 use Rattle.text.specs.Weights.{words-weight}
 use Rattle.prenex.specs.Weights.{outward-weight, clamped, Ends, Weighs}
 use Rattle.prenex.specs.declared.weight.Weighed.{Weighed}
-use Rattle.prenex.proofs.Streams.{At, head, node, constant, block-node, no-kind, no-node, behind-part, count-told}
+use Rattle.prenex.proofs.Streams.{At, node, block-node, no-kind, no-node, behind-part, count-told}
 
 -- where a part from n on ends is past what lies before n
 pub farther : {S : List ℕ} {n m : ℕ} {r : Weighed} → Weighs S n r → m < n → m < 1024 → m < r .next

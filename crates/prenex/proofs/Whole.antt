@@ -1,24 +1,22 @@
 -- The stage as a whole: the weight first, and then the walk with its names.
-use mathlib.Core.Path.{_≡_, refl, sym, ap, ap₂, subst, _∙_}
-use mathlib.Core.Bool.{Bool, true, false}
-use mathlib.Core.List.{List, [], _∷_, _++_, map}
-use Prim.Native.Nat.{ℕ, zero, suc, _+_, _*_, _≤_, _<_, min, max}
+use mathlib.Core.Path.{_≡_, refl, sym, ap, ap₂, _∙_}
+use mathlib.Core.Bool.{false}
+use mathlib.Core.List.{List, [], _∷_}
+use Prim.Native.Nat.{ℕ, zero, suc, _*_, _≤_, _<_}
 use native.Mathlib.Omega.{arith}
 use lib.Dec.{leb}
 use lib.ListN.{length, take, drop, replicate}
 use borrow.Author.Tests.{leb-true, leb-false}
 use Rattle.definitions.specs.Bytes.{Bytes}
-use Rattle.definitions.specs.Limits.{house}
 use Rattle.definitions.specs.Syntax.{Formula, weight}
-use Rattle.definitions.specs.Prenex.{longest, Prenex, formula, outward}
+use Rattle.definitions.specs.Prenex.{formula, outward}
 use Rattle.definitions.specs.Laws.Bools.{by-cases}
 use Rattle.definitions.specs.Laws.Prenex.{outward-no-block}
 use Rattle.text.specs.declared.table.Table.{Table}
 use Rattle.text.specs.Tables.{Holds}
-use Rattle.text.specs.Words.{Token, token, tokens, code}
-use Rattle.text.specs.Prefixes.{names, prefix-code}
-use Rattle.prenex.specs.Walk.{Side, coded}
-use Rattle.prenex.specs.Weights.{outward-weight, clamped, Weighs}
+use Rattle.text.specs.Words.{Token, token, tokens}
+use Rattle.prenex.specs.Walk.{coded}
+use Rattle.prenex.specs.Weights.{clamped, Weighs}
 use Rattle.prenex.specs.Writing.{Plain, widest-name, End, done, full, long}
 use Rattle.prenex.specs.Outward.{Runs}
 use Rattle.prenex.specs.Stage.{Outcome, heavy, long as too-long-names, made, Judges, Prenexes}
@@ -26,7 +24,7 @@ use Rattle.prenex.specs.declared.weight.Weighed.{Weighed}
 use Rattle.prenex.specs.declared.write.Went.{Went}
 use Rattle.prenex.specs.declared.Prenexed.{Prenexed}
 use Rattle.prenex.specs.declared.Fate.{Fate}
-use Rattle.prenex.specs.declared.Fate.the-variants.{Made, Heavy, Long, Unfit}
+use Rattle.prenex.specs.declared.Fate.the-variants.{Heavy, Unfit}
 use Rattle.prenex.proofs.Words.{tokens-kept}
 use Rattle.prenex.proofs.Lengths.{whole-read}
 use Rattle.prenex.proofs.Sizes.{coded-size, held-prefix, form-weight, form-long, form-short}

@@ -1,9 +1,8 @@
 -- Words and the tokens that they stand for: a table's tokens at a place, after a word was written, and while the made names grow.
 use mathlib.Core.Path.{_≡_, refl, sym, ap, ap₂, _∙_}
 use mathlib.Core.Bool.{Bool, true, false, cond, _||_}
-use mathlib.Core.List.{List, [], _∷_, _++_, map}
-use Prim.Native.Nat.{ℕ, zero, suc, _+_, _*_, _%_, _/_, _≤_, _<_}
-use native.Mathlib.Omega.{arith}
+use mathlib.Core.List.{List, [], _∷_, _++_}
+use Prim.Native.Nat.{ℕ, zero, suc, _+_, _≤_, _<_}
 use native.Mathlib.Numerals.{add-one}
 use borrow.Author.Tests.{eq-eqb, ne-eqb}
 use lib.Dec.{eqb}
@@ -12,7 +11,7 @@ use lib.Seq.{slice, slice-cons, take-take}
 use Rattle.definitions.specs.Bytes.{Bytes, same}
 use Rattle.definitions.specs.Syntax.{Name}
 use Rattle.definitions.specs.Names.{mem}
-use Rattle.definitions.specs.Laws.Bools.{by-cases, clash}
+use Rattle.definitions.specs.Laws.Bools.{by-cases}
 use Rattle.definitions.specs.Laws.Sets.{mem-append}
 use Rattle.text.specs.Words.{Token, var-token, sign, is-made, kind-of, count-of, size-of, start-of, spell, token, tokens}
 use Rattle.text.specs.Prefixes.{names}

@@ -1,3 +1,4 @@
+-- Prenex form (source document 000, stage 2) over node tables; the form itself is `outward` of the definitions. What the stage promises is in Stage.
 pub mod Walk
 pub mod Tables
 pub mod Renaming

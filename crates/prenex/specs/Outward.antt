@@ -9,8 +9,8 @@ use Rattle.definitions.specs.Bytes.{Bytes}
 use Rattle.definitions.specs.Limits.{house}
 use Rattle.definitions.specs.Syntax.{Op, imp, and, Quant, Formula}
 use Rattle.definitions.specs.Prenex.{Prenex, merge, outward}
-use Rattle.text.specs.Words.{Token, sign, block-kind, op-kind, token, code, kind-of, is-made}
-use Rattle.prenex.specs.Walk.{turning, left-sign, coded}
+use Rattle.text.specs.Words.{Token, sign, block-kind, token, code, kind-of, is-made}
+use Rattle.prenex.specs.Walk.{turning, coded}
 use Rattle.prenex.specs.Tables.{Ready}
 use Rattle.prenex.specs.Writing.{Plain, Reads, End, Safe}
 use Rattle.prenex.specs.declared.write.Went.{Went}

@@ -1,15 +1,15 @@
 -- What the parts of a binary step say, from one name to both sides.
 use mathlib.Core.Bool.{Bool, true, false}
-use mathlib.Core.List.{List, [], _∷_, _++_, map}
+use mathlib.Core.List.{List, [], _++_}
 use mathlib.Core.Path.{_≡_}
-use Prim.Native.Nat.{ℕ, _+_, _*_, _≤_, _<_}
+use Prim.Native.Nat.{ℕ, _+_, _≤_, _<_}
 use lib.ListN.{length, take, drop, getD, set}
 use lib.Seq.{slice}
 use Rattle.definitions.specs.Bytes.{Bytes}
 use Rattle.definitions.specs.Syntax.{Name}
 use Rattle.definitions.specs.Limits.{house}
 use Rattle.definitions.specs.Prenex.{longest}
-use Rattle.text.specs.Words.{Token, var-token, kind-of, spell, token, tokens}
+use Rattle.text.specs.Words.{Token, var-token, kind-of, spell, tokens}
 use Rattle.text.specs.Prefixes.{names}
 use Rattle.prenex.specs.Walk.{Side, new-name, renamed, walk, left-apart, right-apart}
 use Rattle.prenex.specs.Tables.{slot-word, slot-size, Slot, Ready}

@@ -1,11 +1,11 @@
 -- The two tables of a prenex form, its prefix and its matrix, and the made names.
 -- Made names stand in slots of 25 bytes, one for each place of the prefix table: a variable's name, then backticks to the slot's end. A
 -- variable that is renamed grows within its slot: nothing is written, and a name that fills the slot is over 24 bytes.
-use mathlib.Core.Bool.{Bool, true}
+use mathlib.Core.Bool.{true}
 use mathlib.Core.List.{List, _++_}
 use mathlib.Core.Path.{_≡_}
 use Prim.Native.Nat.{ℕ, _+_, _*_, _-_, _≤_, _<_}
-use lib.ListN.{length, take, drop, getD, replicate}
+use lib.ListN.{length, getD, replicate}
 use Rattle.definitions.specs.Bytes.{Bytes}
 use Rattle.definitions.specs.Syntax.{Name}
 use Rattle.definitions.specs.Limits.{house}

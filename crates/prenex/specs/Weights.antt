@@ -7,7 +7,7 @@ use lib.ListN.{length, drop}
 use mathlib.Core.List.{List}
 use Rattle.definitions.specs.Bytes.{Bytes}
 use Rattle.definitions.specs.Limits.{house}
-use Rattle.definitions.specs.Syntax.{Term, Terms, count, term-weight, terms-weight, Op, and, or, imp, iff, Formula, top, bot, pred, eq, neg, bin, blk, weight}
+use Rattle.definitions.specs.Syntax.{Terms, count, term-weight, terms-weight, and, or, imp, iff, Formula, top, bot, pred, eq, neg, bin, blk, weight}
 use Rattle.text.specs.Words.{Token, tokens, terms-code, code}
 use Rattle.prenex.specs.declared.weight.Weighed.{Weighed}
 

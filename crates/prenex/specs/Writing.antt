@@ -4,15 +4,14 @@ use mathlib.Core.List.{List, [], _∷_, _++_, map}
 use mathlib.Core.Path.{_≡_}
 use Prim.Native.Nat.{ℕ, _+_, _*_, _≤_, _<_, max}
 use lib.ListN.{length, take, drop, getD}
-use lib.Seq.{slice}
 use Rattle.definitions.specs.Bytes.{Bytes}
-use Rattle.definitions.specs.Syntax.{Name, Formula, weight}
+use Rattle.definitions.specs.Syntax.{Name, weight}
 use Rattle.definitions.specs.Limits.{house}
 use Rattle.definitions.specs.Prenex.{longest}
-use Rattle.text.specs.Words.{Token, var-token, is-made, size-of, start-of, token, tokens, code}
+use Rattle.text.specs.Words.{Token, var-token, is-made, size-of, start-of, token, tokens}
 use Rattle.text.specs.Prefixes.{names}
 use Rattle.prenex.specs.Walk.{Side}
-use Rattle.prenex.specs.Tables.{slot-size, Known, AllKnown, Places, Ready}
+use Rattle.prenex.specs.Tables.{slot-size, AllKnown, Places, Ready}
 use Rattle.prenex.specs.declared.write.Went.{Went}
 
 -- A rule's words point into the rule text: the first `end` words of the source S do.

@@ -1,5 +1,5 @@
-// Prenex form (stage 2): prefix and matrix of a rule, each in a table of its own.
-// Example: (∀ x. P(x)) ∧ ∃ x. Q(x) has the prefix ∀ x. ∃ x. over P(x) ∧ Q(x) with the second x renamed: ∀ x. ∃ x`. (P(x) ∧ Q(x`)).
+// Prenex form (stage 2): the blocks of a rule come out to its front, in reading order. Prefix and matrix are kept apart, each in a table of
+// its own: the prefix of (∀ x. P(x)) ∧ ∃ x. Q(x) is ∀ x. ∃ x`, and its matrix P(x) ∧ Q(x`).
 mod outward;
 mod rename;
 mod weight;

@@ -9,7 +9,6 @@ use crate::write::copy;
 use crate::write::put;
 use text::table::Table;
 ghost use mathlib.Core.Path.{_≡_};
-ghost use mathlib.Core.Bool.{Bool};
 ghost use Prim.Native.Nat.{ℕ, _≤_, _<_};
 ghost use lib.ListN.{length as size};
 ghost use mathlib.Core.List.{List};
@@ -40,6 +39,9 @@ const ALL: u64 = 8;
 const EX: u64 = 9;
 
 const PRED: u64 = 10;
+
+// The places of two formulae, in the order in which they are written.
+pub struct Way(pub usize, pub usize);
 
 // The head of a block, as the sign has it.
 fn turned(word: u64, flip: bool) -> u64
@@ -154,6 +156,7 @@ pub(crate) fn outward(
             );
         }
         if kind <= IMP {
+            let turn = !flip;
             return pair(
                 text,
                 made,
@@ -161,7 +164,7 @@ pub(crate) fn outward(
                 left,
                 right.next,
                 IMP,
-                !flip,
+                turn,
                 flip,
                 prefix,
                 used,
@@ -245,11 +248,12 @@ fn pair(
         → RunsBoth (now (text .entry)) (now (made .entry)) (now (prefix .entry)) used (now (matrix .entry)) length (now (src .entry)) left right flip
         (now (made .exit)) (now (prefix .exit)) (now (matrix .exit)) r (over o)) ⌝ }
 {
+    let way = Way(left, right);
     let h = put(head, used, matrix, length);
     if h.fate != 0 {
         return h;
     }
-    let l = outward(text, made, src, left, turn, prefix, used, matrix, h.matrix);
+    let l = outward(text, made, src, way.0, turn, prefix, used, matrix, h.matrix);
     if l.fate != 0 {
         return l;
     }
@@ -257,7 +261,7 @@ fn pair(
         text,
         made,
         src,
-        right,
+        way.1,
         flip,
         prefix,
         l.prefix,
@@ -306,6 +310,7 @@ fn four(
         × RunsBoth (now (text .entry)) (now (made .entry)) (now (prefix .entry)) used (now (matrix .entry)) length (now (src .entry)) left right flip
         (now (made .exit)) (now (prefix .exit)) (now (matrix .exit)) r both-ways ⌝ }
 {
+    let there = Way(left, right);
     let h = put(AND, used, matrix, length);
     if h.fate != 0 {
         return h;
@@ -314,8 +319,8 @@ fn four(
         text,
         made,
         src,
-        left,
-        right,
+        there.0,
+        there.1,
         IMP,
         !flip,
         flip,
@@ -331,8 +336,8 @@ fn four(
         text,
         made,
         src,
-        right,
-        left,
+        there.1,
+        there.0,
         IMP,
         !flip,
         flip,

@@ -4,3 +4,4 @@ pub mod Held
 pub mod Labels
 pub mod Told
 pub mod Fed
+pub mod Moving

@@ -13,10 +13,12 @@ ghost use Rattle.stream.specs.Pushing.{Pushes, Prints};
 
 const TAB: u8 = 9;
 
-// What has to be lent: for what is kept of a rule, and for what is printed. For work it is `convert::WORK`.
+// What has to be lent: for what is kept of a rule, for what is printed, and for work.
 pub const KEPT: usize = 34845;
 
 pub const ROOM: usize = print::ROOM;
+
+pub const WORK: usize = convert::WORK;
 
 // The state behind a push, where the piece is to be read on, and how many bytes of out were printed.
 pub struct Pushed {

@@ -4,12 +4,15 @@
 use mathlib.Core.Path.{_≡_, refl, sym, ap, ap₂, _∙_}
 use mathlib.Core.Bool.{Bool, true, false, not, cond}
 use mathlib.Core.List.{List, [], _∷_, _++_, map, map-append}
-use Prim.Native.Nat.{ℕ, suc}
+use Prim.Native.Nat.{ℕ, suc, max}
+use native.Mathlib.Omega.{arith}
 use lib.ListN.{length}
-use Rattle.definitions.specs.Syntax.{Name, Op, and, or, imp, iff, Quant, all, ex, Formula, top, bot, pred, eq, neg, bin, blk}
+use Rattle.definitions.specs.Syntax.{Name, Term, var, con, app, Terms, nil, cons, count, Op, and, or, imp, iff, Quant, all, ex, Formula, top, bot, pred, eq, neg, bin, blk}
+use Rattle.definitions.specs.Names.{mem, term-widest, terms-widest, widest}
 use Rattle.definitions.specs.Negation.{flip}
 use Rattle.definitions.specs.Simplify.{simplify}
-use Rattle.definitions.specs.Prenex.{Prefix, plain, more, Prenex, close, shades, sub, apart, as-subst, news, renames, next, premise, pull-right, pull, merge, flips, outward, pnf}
+use Rattle.definitions.specs.Prenex.{Subst, shade, term-sub, terms-sub, sub, Pairs, Prefix, plain, more, Prenex, close, formula, shades, apart, as-subst, news, renames, next, premise, pull-right, pull, merge, flips, outward, pnf}
+use Rattle.definitions.specs.Laws.Bools.{by-cases}
 
 -- a block: its quantifier, and how many variables it has
 pub record Block : Type 0 where
@@ -131,3 +134,87 @@ outward-blocks f = sym (no-sign (prefix-blocks ((outward f) .prefix))) ∙ signe
 pub pnf-blocks : (f : Formula) → prefix-blocks ((pnf f) .prefix) ≡ blocks false (simplify f)
 unfolding pnf
 pnf-blocks f = outward-blocks (simplify f)
+
+-- Variables are put for variables, so no function gets more arguments: refusal 7 has only the weight to look at.
+abbrev Narrow : Subst → Type 0
+Narrow s = (x : Name) → term-widest (s x) ≡ 0
+
+module _ (s : Subst) (h : Narrow s) where
+  mutual
+    unfolding term-sub terms-sub term-widest terms-widest count
+
+    term-same : (t : Term) → term-widest (term-sub s t) ≡ term-widest t
+    term-same (var x) = h x
+    term-same (con c) = refl
+    term-same (app f ts) = ap₂ max (count-same ts) (terms-same ts)
+
+    terms-same : (ts : Terms) → terms-widest (terms-sub s ts) ≡ terms-widest ts
+    terms-same nil = refl
+    terms-same (cons t ts) = ap₂ max (term-same t) (terms-same ts)
+
+    count-same : (ts : Terms) → count (terms-sub s ts) ≡ count ts
+    count-same nil = refl
+    count-same (cons t ts) = ap suc (count-same ts)
+
+shade-narrow : (vs : List Name) (s : Subst) → Narrow s → Narrow (shade vs s)
+unfolding term-widest
+shade-narrow vs s h x = by-cases (mem x vs) (λ t. rw t) (λ f. rw f (h x))
+
+shades-narrow : (p : Prefix) (s : Subst) → Narrow s → Narrow (shades p s)
+unfolding shades
+shades-narrow plain s h = h
+shades-narrow (more q vs p) s h = shades-narrow p (shade vs s) (shade-narrow vs s h)
+
+sub-widest : (f : Formula) (s : Subst) → Narrow s → widest (sub s f) ≡ widest f
+unfolding sub widest
+sub-widest top s h = refl
+sub-widest bot s h = refl
+sub-widest (pred p ts) s h = terms-same s h ts
+sub-widest (eq t u) s h = ap₂ max (term-same s h t) (term-same s h u)
+sub-widest (neg f) s h = sub-widest f s h
+sub-widest (bin o f g) s h = ap₂ max (sub-widest f s h) (sub-widest g s h)
+sub-widest (blk q vs f) s h = sub-widest f (shade vs s) (shade-narrow vs s h)
+
+-- the names that a block's variables get
+named-widest : (p : Prefix) (ps : Pairs) (m : Formula) → widest (sub (shades p (as-subst ps)) m) ≡ widest m
+unfolding term-widest
+named-widest p ps m = sub-widest m (shades p (as-subst ps)) (shades-narrow p (as-subst ps) (λ x. refl))
+
+right-widest : (o : Op) (m : Formula) (p : Prefix) (n : Formula) → widest ((pull-right o m p n) .matrix) ≡ max (widest m) (widest n)
+unfolding pull-right widest
+right-widest o m plain n = refl
+right-widest o m (more q vs p) n =
+    let ps = apart vs (close p n) m in
+    right-widest o m p (sub (shades p (as-subst ps)) n) ∙ ap (max (widest m)) (named-widest p ps n)
+
+pull-widest : (o : Op) (p : Prefix) (m : Formula) (q : Prefix) (n : Formula) → widest ((pull o p m q n) .matrix) ≡ max (widest m) (widest n)
+unfolding pull
+pull-widest o plain m q n = right-widest o m q n
+pull-widest o (more k vs p) m q n =
+    let ps = apart vs (close p m) (close q n) in
+    pull-widest o p (sub (shades p (as-subst ps)) m) q n ∙ ap (λ (w : ℕ). max w (widest n)) (named-widest p ps m)
+
+merge-widest : (o : Op) (x y : Prenex) → widest ((merge o x y) .matrix) ≡ max (widest (x .matrix)) (widest (y .matrix))
+merge-widest o x y = pull-widest o (x .prefix) (x .matrix) (y .prefix) (y .matrix)
+
+matrix-widest : (f : Formula) → widest ((outward f) .matrix) ≡ widest f
+unfolding outward widest
+matrix-widest top = refl
+matrix-widest bot = refl
+matrix-widest (pred p ts) = refl
+matrix-widest (eq t u) = refl
+matrix-widest (neg f) = matrix-widest f
+matrix-widest (bin and f g) = merge-widest and (outward f) (outward g) ∙ ap₂ max (matrix-widest f) (matrix-widest g)
+matrix-widest (bin or f g) = merge-widest or (outward f) (outward g) ∙ ap₂ max (matrix-widest f) (matrix-widest g)
+matrix-widest (bin imp f g) = merge-widest imp (outward f) (outward g) ∙ ap₂ max (matrix-widest f) (matrix-widest g)
+matrix-widest (bin iff f g) =
+    omega (arith, merge-widest and (merge imp (outward f) (outward g)) (merge imp (outward g) (outward f)), merge-widest imp (outward f) (outward g), merge-widest imp (outward g) (outward f), matrix-widest f, matrix-widest g)
+matrix-widest (blk q vs f) = matrix-widest f
+
+close-widest : (p : Prefix) (m : Formula) → widest (close p m) ≡ widest m
+unfolding close widest
+close-widest plain m = refl
+close-widest (more q vs p) m = close-widest p m
+
+pub outward-widest : (f : Formula) → widest (formula (outward f)) ≡ widest f
+outward-widest f = close-widest ((outward f) .prefix) ((outward f) .matrix) ∙ matrix-widest f

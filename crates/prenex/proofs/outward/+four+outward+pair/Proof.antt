@@ -1,13 +1,12 @@
 -- The walk over a rule, node by node. A part begins behind the node's word, so what is still to be read falls.
 use native.Mathlib.Omega.{arith}
-use mathlib.Core.Path.{_≡_, refl, sym, _∙_}
+use mathlib.Core.Path.{refl}
 use Rattle.definitions.specs.Syntax.{and as and-op, or as or-op, imp}
 use Rattle.definitions.specs.Prenex.{outward as outward-of}
 use Rattle.definitions.specs.Laws.Prenex.{outward-no-block}
 use Rattle.prenex.specs.Outward.{over}
 use Rattle.prenex.specs.Walk.{coded}
 use Rattle.prenex.specs.Renaming.{both-apart}
-use Rattle.prenex.proofs.Streams.{At}
 use Rattle.prenex.proofs.Weighing.{farther}
 use Rattle.prenex.proofs.Composing.{topped-stops}
 use Rattle.prenex.proofs.Blocking.{between-none}

@@ -1,6 +1,4 @@
 -- The left side against the right, then the right against the left matrix.
-use borrow.Author.Needs.{needs}
-use native.Mathlib.Omega.{arith}
 use Rattle.prenex.proofs.Joins.{left-bounds, right-bounds, left-stops, both-walked}
 use Rattle.prenex.proofs.rename.merge.Statement.{statement}
 use Rattle.prenex.proofs.rename.merge.Tie as tie

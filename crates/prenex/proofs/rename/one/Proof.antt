@@ -1,8 +1,6 @@
 -- The variable is not in the other side's matrix, or is bound by the other side's prefix, or is free there: then it is given a new name.
-use borrow.Author.Needs.{needs}
 use borrow.Author.Tests.{not-true, not-false}
 use native.Mathlib.Omega.{arith}
-use mathlib.Core.Path.{_≡_, sym, _∙_}
 use Rattle.prenex.proofs.Place.{not-there, bound-there, free-there, at-slot, stays, fails, new-kind, takes}
 use Rattle.prenex.proofs.rename.one.Statement.{statement}
 use Rattle.prenex.proofs.rename.one.Tie as tie
@@ -12,13 +10,13 @@ one-spec =
     tie.close (tie.spec
     (λ c. omega (arith, c .before .before .pre .bounds))  -- mul-word
     (λ c. omega (arith, c .before .before .pre .bounds, c .before .before .pre .bounds .ready))  -- element-copy-out-word
-    (λ c κs. let b = c .before .before .before .before .pre .bounds in (b .ready .matrix-size, b .others))  -- occurs-requires
+    (λ c κs. let b = c .before .before .before .before .pre .bounds in omega (arith, b, b .ready, b .ready .places))  -- occurs-requires
     (λ c.
     let o = c .before in
     let s = o .before .before .before .before .before in
     let T = s .args .text .now in
     stays T (s .pre) (not-there T (s .pre) (o .occurs .ensures) (not-true _ (c .if1 .taken))))  -- returns
-    (λ c κs. let b = c .before .before .before .before .before .before .before .pre .bounds in (b .ready .places .size, b .prefix))  -- occurs-requires-2
+    (λ c κs. let b = c .before .before .before .before .before .before .before .pre .bounds in omega (arith, b, b .ready, b .ready .places))  -- occurs-requires-2
     (λ c.
     let t = c .before .before .before in
     let o = t .before in
@@ -36,7 +34,7 @@ one-spec =
     let o = t .before in
     let s = o .before .before .before .before .before in
     let T = s .args .text .now in
-    fails T (s .pre) (free-there T (s .pre) (o .occurs .ensures) (not-false _ (t .if1 .left)) (u .before .occurs2 .ensures) (u .if2 .left)) (f .fresh .ensures) (c .if3 .taken))  -- returns-3
+    fails T (s .pre) (free-there T (s .pre) (o .occurs .ensures) (not-false _ (t .if1 .left)) (u .before .occurs2 .ensures) (u .if2 .left)) (f .fresh .ensures) (omega (arith, c .if3 .taken)))  -- returns-3
     (λ c. omega (arith, c .before .before .before .before .before .before .before .before .before .before .before .before .before .before .pre .bounds))  -- add-rebind
     (λ c κs.
     let f = c .before .before .before in

@@ -1,5 +1,4 @@
 -- The loop keeps `Goes`: the words before `at` are done, and the walk of those left gives the rest.
-use borrow.Author.Needs.{needs}
 use native.Mathlib.Omega.{arith}
 use mathlib.Core.Logic.{⊎-elim}
 use Prim.Native.Nat.{_-_}

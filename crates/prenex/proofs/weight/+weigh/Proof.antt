@@ -1,7 +1,6 @@
 -- Each node from its parts. What is still to be read falls: each part begins behind the node's word.
 use native.Mathlib.Omega.{arith}
-use mathlib.Core.Path.{_≡_, refl}
-use Rattle.prenex.proofs.Streams.{At}
+use mathlib.Core.Path.{refl}
 use Rattle.prenex.proofs.Weighing.{farther, nowhere-weighs, no-formula, constant-weighs, not-weighs, both-weigh, iff-weighs, equation-weighs, predicate-weighs, block-weighs}
 use Prim.Native.Nat.{ℕ, _<_, _-_}
 use borrow.Fn.Kinds.{In}

@@ -1,9 +1,9 @@
 -- The name goes into the place's slot, or is too long for it.
 use borrow.Author.Needs.{needs}
 use native.Mathlib.Omega.{arith}
-use mathlib.Core.Path.{_≡_, refl, sym, ap, _∙_}
+use mathlib.Core.Path.{ap, _∙_}
 use mathlib.Core.List.{List}
-use Prim.Native.Nat.{ℕ, _+_, _*_}
+use Prim.Native.Nat.{ℕ, _*_}
 use lib.ListN.{length, set}
 use lib.Seq.{paste}
 use Rattle.prenex.specs.Tables.{padded}
