@@ -14,6 +14,7 @@ use Rattle.definitions.specs.RuleText.{written}
 use Rattle.definitions.specs.Reading.{Reading, tree, malformed, large, read}
 use Rattle.definitions.specs.Simplify.{simplify}
 use Rattle.definitions.specs.Negation.{nnf}
+use Rattle.definitions.specs.Skolem.{Skolemised}
 use Rattle.definitions.specs.Convert.{to-simplified, to-nnf, Result, given, refused, not-given, fitted, laid, convert, convert-tree, convert-reading, answer, out-after, work-after}
 use Rattle.definitions.specs.Laws.Within.{Within}
 use Rattle.definitions.specs.Laws.Reading.{read-iff}
@@ -32,8 +33,11 @@ use Rattle.negation.specs.declared.Staged.{Staged}
 use Rattle.negation.specs.declared.Stage.the-variants.{Made, Full}
 use Rattle.negation.specs.Stage.{made, full}
 use Rattle.negation.specs.Stage.{Outcome as Stages}
+use Rattle.convert.proofs.Joining.{unmade}
 use Rattle.convert.specs.declared.Conversion.{Conversion}
 use Rattle.convert.specs.declared.Answer.{Answer}
+use Rattle.convert.specs.declared.stages.Last.{Last}
+use Rattle.convert.specs.Stages.{Rule, ending}
 use Rattle.convert.specs.Answers.{meaning, named, Answered, Meets}
 
 -- the text of a formula that stands in a table
@@ -44,6 +48,10 @@ shown {out = out} w h e = record {
   lays = w .leaves ∙ ap (λ (s : Bytes). laid (given s) out) (text-of-table h);
 }
 
+-- a text that was written
+pub as-written : {s out out′ : Bytes} {w : Written} {r : Answer} → Writes s out out′ w → answer-of w ≡ meaning r → Answered (given s) out r out′
+as-written w e = record { answers = sym e ∙ w .answers; lays = w .leaves }
+
 -- one result for another that is equal
 pub as-well : {a b : Result} {out out′ : Bytes} {r : Answer} → a ≡ b → Answered a out r out′ → Answered b out r out′
 as-well e h = rw e at h
@@ -52,6 +60,10 @@ as-well e h = rw e at h
 pub by-name : (f : Formula) {v w : Conversion} {out out′ : Bytes} {r : Answer} → w ≡ v → Answered (convert-tree house (named v) f) out r out′
     → Answered (convert-tree house (named w) f) out r out′
 by-name f e h = as-well (ap (λ (x : Conversion). convert-tree house (named x) f) (sym e)) h
+
+-- what follows stage 3, under its name
+pub by-last : (s : Skolemised) {v w : Last} {out out′ : Bytes} {r : Answer} → w ≡ v → Answered (ending v s) out r out′ → Answered (ending w s) out r out′
+by-last s e h = as-well (ap (λ (x : Last). ending x s) (sym e)) h
 
 -- a refusal, with out as it was
 pub is-refused : {a : Result} {n p : ℕ} {out : Bytes} {r : Answer} → a ≡ refused n p → meaning r ≡ not-given n p → Answered a out r out
@@ -73,12 +85,12 @@ negation-heavy {f} w h = nnf-stage house f (given (written (nnf f))) w ∙ rw (l
 
 -- what was read decides the conversion; the rule that was read is within the limits
 pub was-tree : (T : Bytes) (o : Outcome) → Says (read house T) T o → o .verdict ≡ Tree
-    → (c : Rattle.definitions.specs.Convert.Conversion) → (f : Formula) × Within house f × ((M : Bytes) → Holds T M (o .table) f) × (convert house c T ≡ convert-tree house c f)
+    → (c : Rattle.definitions.specs.Convert.Conversion) → (f : Formula) × Rule T (o .table) f × (convert house c T ≡ convert-tree house c f)
 unfolding convert
 was-tree T o says e c = go (read house T) refl says
   where
-    go : (r : Reading) → read house T ≡ r → Says r T o → (f : Formula) × Within house f × ((M : Bytes) → Holds T M (o .table) f) × (convert house c T ≡ convert-tree house c f)
-    go (tree f) h s = (f, (read-iff house T f) .0 h .1, s .holds, ap (convert-reading house c) h)
+    go : (r : Reading) → read house T ≡ r → Says r T o → (f : Formula) × Rule T (o .table) f × (convert house c T ≡ convert-tree house c f)
+    go (tree f) h s = (f, record { within = (read-iff house T f) .0 h .1; holds = s .holds; unmade = unmade T _ (s .within) }, ap (convert-reading house c) h)
     go (malformed k) h s = let z : _≡_ {A = ℕ} 0 1 = cc in absurd (omega arith)
     go (large k) h s = let z : _≡_ {A = ℕ} 0 1 = cc in absurd (omega arith)
 

@@ -4,10 +4,9 @@ use lib.ListN.{length}
 use Rattle.definitions.specs.Bytes.{Bytes}
 use Rattle.definitions.specs.Syntax.{Formula}
 use Rattle.definitions.specs.Limits.{house}
-use Rattle.definitions.specs.Convert.{to-simplified, to-nnf, Result, given, accepted, not-given, fitted, laid, convert, convert-tree, answer, out-after, work-after}
-use mathlib.Core.List.{List, [], _∷_}
+use Rattle.definitions.specs.Convert.{to-simplified, to-nnf, to-pnf, to-snf, to-cnf, to-dnf, pnf-to-snf, snf-to-cnf, snf-to-dnf, Result, given, accepted, not-given, fitted, laid, convert, convert-tree, answer, out-after, work-after}
 use Rattle.convert.specs.declared.Conversion.{Conversion}
-use Rattle.convert.specs.declared.Conversion.the-variants.{Simplify, Nnf}
+use Rattle.convert.specs.declared.Conversion.the-variants.{Simplify, Nnf, Pnf, Snf, Cnf, Dnf, PnfSnf, SnfCnf, SnfDnf}
 use Rattle.convert.specs.declared.Answer.{Answer}
 use Rattle.convert.specs.declared.Answer.the-variants.{Length, Room, Malformed, Large, Shape, Hash, Name, Weight, Clauses, Work}
 
@@ -28,10 +27,13 @@ meaning Work = not-given 9 0
 abbrev pub named : Conversion → Rattle.definitions.specs.Convert.Conversion
 named Simplify = to-simplified
 named Nnf = to-nnf
-
--- those that are built
-abbrev pub built : List Rattle.definitions.specs.Convert.Conversion
-built = to-simplified ∷ to-nnf ∷ []
+named Pnf = to-pnf
+named Snf = to-snf
+named Cnf = to-cnf
+named Dnf = to-dnf
+named PnfSnf = pnf-to-snf
+named SnfCnf = snf-to-cnf
+named SnfDnf = snf-to-dnf
 
 -- the promise of a call: its answer, and what the lent buffers hold at its end
 pub record Meets (c : Rattle.definitions.specs.Convert.Conversion) (text out work : Bytes) (r : Answer) (out′ work′ : Bytes) : Type 0 where

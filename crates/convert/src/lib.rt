@@ -3,28 +3,29 @@ ghost use mathlib.Core.Path.{_≡_};
 ghost use Prim.Native.Nat.{_≤_};
 ghost use lib.ListN.{length, replicate};
 ghost use Rattle.definitions.specs.Bytes.{Bytes};
-ghost use Rattle.definitions.specs.Syntax.{Formula};
-ghost use Rattle.definitions.specs.RuleText.{written};
 ghost use Rattle.definitions.specs.Limits.{house, published};
-ghost use Rattle.definitions.specs.Convert.{to-simplified, to-nnf};
-ghost use Rattle.definitions.specs.Laws.Within.{Within};
-ghost use Rattle.text.specs.Tables.{Holds};
-ghost use Rattle.convert.specs.Answers.{named, Meets, Gives, Shows, ShowsTree};
-use negation::Stage;
-use negation::negation_form;
+ghost use Rattle.definitions.specs.Convert.{to-simplified, to-nnf, to-pnf, to-snf, to-cnf, to-dnf, pnf-to-snf, snf-to-cnf, snf-to-dnf};
+ghost use Rattle.convert.specs.Answers.{named, Meets, Gives};
+use crate::stages::staged;
 use text::reader::Verdict;
 use text::reader::read;
-use text::table::Table;
-use text::writer::Written;
-use text::writer::write;
+
+mod stages;
 
 // The published size of the work buffer.
 pub const WORK: usize = 32768;
 
-// Which conversion; the others follow as their stages are built.
+// Which conversion.
 pub enum Conversion {
     Simplify,
     Nnf,
+    Pnf,
+    Snf,
+    Cnf,
+    Dnf,
+    PnfSnf,
+    SnfCnf,
+    SnfDnf,
 }
 
 // What a call answers: the text's length, or why there is none. specs/Answers.antt gives document 01's number and place for each.
@@ -52,59 +53,9 @@ fn clear(s: &mut [u8])
     }
 }
 
-// Writes a table's formula to the front of out, if there is room for it.
-fn show<'a>(table: Table, text: &'a [u8], made: &'a [u8], out: &mut [u8]) -> Answer
-    ensures { λ r. ⌜ ((f : Formula) → Holds (now (text .entry)) (now (made .entry)) table f → Shows (written f) (now (out .entry)) r (now (out .exit))) ⌝ }
-{
-    let used = table.used;
-    match write(&table.nodes, used, text, made, out) {
-        Written::Length(n) => Answer::Length(n),
-        Written::NoRoom => Answer::Room,
-    }
-}
-
-// Stage 1 of a rule that was read: it refuses nothing.
-fn simplified<'a>(table: Table, text: &'a [u8], made: &'a [u8], out: &mut [u8]) -> Answer
-    ensures { λ r. ⌜ ((f : Formula) → Within house f → Holds (now (text .entry)) (now (made .entry)) table f → ShowsTree to-simplified f (now (out .entry)) r (now (out .exit))) ⌝ }
-{
-    let t = simplify::simplify(table, text, made);
-    show(t, text, made, out)
-}
-
-// Stage 4 of a rule that was read.
-fn negated<'a>(table: Table, text: &'a [u8], made: &'a [u8], out: &mut [u8]) -> Answer
-    ensures { λ r. ⌜ ((f : Formula) → Within house f → Holds (now (text .entry)) (now (made .entry)) table f → ShowsTree to-nnf f (now (out .entry)) r (now (out .exit))) ⌝ }
-{
-    let s = negation_form(table);
-    let fate = s.fate;
-    match fate {
-        Stage::Full => Answer::Weight(4),
-        Stage::Made => {
-            let t = s.table;
-            show(t, text, made, out)
-        }
-    }
-}
-
-// The stages that a conversion passes, of a rule that was read.
-fn staged<'a>(
-    which: Conversion,
-    table: Table,
-    text: &'a [u8],
-    made: &'a [u8],
-    out: &mut [u8],
-) -> Answer
-    ensures { λ r. ⌜ ((f : Formula) → Within house f → Holds (now (text .entry)) (now (made .entry)) table f → ShowsTree (named which) f (now (out .entry)) r (now (out .exit))) ⌝ }
-{
-    match which {
-        Conversion::Simplify => simplified(table, text, made, out),
-        Conversion::Nnf => negated(table, text, made, out),
-    }
-}
-
 // A rule's text to a form's, where work is long enough.
-fn inside<'a>(which: Conversion, text: &'a [u8], made: &'a [u8], out: &mut [u8]) -> Answer
-    ensures { λ r. ⌜ Gives (named which) (now (text .entry)) (now (out .entry)) r (now (out .exit)) ⌝ }
+fn inside(which: Conversion, text: &[u8], made: &mut [u8], out: &mut [u8]) -> Answer
+    ensures { λ r. ⌜ (published house ≤ length (now (made .entry)) → Gives (named which) (now (text .entry)) (now (out .entry)) r (now (out .exit))) ⌝ }
 {
     let o = read(text);
     let verdict = o.verdict;
@@ -142,4 +93,53 @@ pub fn nnf(text: &[u8], out: &mut [u8], work: &mut [u8]) -> Answer
     ensures { λ r. ⌜ Meets to-nnf (now (text .entry)) (now (out .entry)) (now (work .entry)) r (now (out .exit)) (now (work .exit)) ⌝ }
 {
     convert(Conversion::Nnf, text, out, work)
+}
+
+// The prenex form. (∀ x. P(x)) ∧ ∃ x. Q(x) gives ∀ x. ∃ x`. (P(x) ∧ Q(x`)).
+pub fn pnf(text: &[u8], out: &mut [u8], work: &mut [u8]) -> Answer
+    ensures { λ r. ⌜ Meets to-pnf (now (text .entry)) (now (out .entry)) (now (work .entry)) r (now (out .exit)) (now (work .exit)) ⌝ }
+{
+    convert(Conversion::Pnf, text, out, work)
+}
+
+// The Skolem form. ∀ x. ∃ y. P(x, y) gives ∀ x. P(x, f#0(x)).
+pub fn snf(text: &[u8], out: &mut [u8], work: &mut [u8]) -> Answer
+    ensures { λ r. ⌜ Meets to-snf (now (text .entry)) (now (out .entry)) (now (work .entry)) r (now (out .exit)) (now (work .exit)) ⌝ }
+{
+    convert(Conversion::Snf, text, out, work)
+}
+
+// The conjunctive clause set of a rule. P(x) ⇔ Q(y) gives {P(x), ¬Q(y)} and {Q(y), ¬P(x)}.
+pub fn cnf(text: &[u8], out: &mut [u8], work: &mut [u8]) -> Answer
+    ensures { λ r. ⌜ Meets to-cnf (now (text .entry)) (now (out .entry)) (now (work .entry)) r (now (out .exit)) (now (work .exit)) ⌝ }
+{
+    convert(Conversion::Cnf, text, out, work)
+}
+
+// The disjunctive clause set of a rule. P(x) ⇒ Q(y) gives {Q(y)} and {¬P(x)}.
+pub fn dnf(text: &[u8], out: &mut [u8], work: &mut [u8]) -> Answer
+    ensures { λ r. ⌜ Meets to-dnf (now (text .entry)) (now (out .entry)) (now (work .entry)) r (now (out .exit)) (now (work .exit)) ⌝ }
+{
+    convert(Conversion::Dnf, text, out, work)
+}
+
+// The Skolem form of a rule that is in prenex form already.
+pub fn pnf_snf(text: &[u8], out: &mut [u8], work: &mut [u8]) -> Answer
+    ensures { λ r. ⌜ Meets pnf-to-snf (now (text .entry)) (now (out .entry)) (now (work .entry)) r (now (out .exit)) (now (work .exit)) ⌝ }
+{
+    convert(Conversion::PnfSnf, text, out, work)
+}
+
+// The conjunctive clause set of a rule that is in Skolem form already.
+pub fn snf_cnf(text: &[u8], out: &mut [u8], work: &mut [u8]) -> Answer
+    ensures { λ r. ⌜ Meets snf-to-cnf (now (text .entry)) (now (out .entry)) (now (work .entry)) r (now (out .exit)) (now (work .exit)) ⌝ }
+{
+    convert(Conversion::SnfCnf, text, out, work)
+}
+
+// The disjunctive clause set of a rule that is in Skolem form already.
+pub fn snf_dnf(text: &[u8], out: &mut [u8], work: &mut [u8]) -> Answer
+    ensures { λ r. ⌜ Meets snf-to-dnf (now (text .entry)) (now (out .entry)) (now (work .entry)) r (now (out .exit)) (now (work .exit)) ⌝ }
+{
+    convert(Conversion::SnfDnf, text, out, work)
 }

@@ -1,6 +1,6 @@
 -- Runs that simplify: at a node, behind a `not`, over two parts, over a block's body, and over a whole table.
 use mathlib.Core.Path.{_≡_, refl, sym, ap, _∙_}
-use mathlib.Core.Bool.{true, false}
+use mathlib.Core.Bool.{false}
 use mathlib.Core.List.{List, [], _∷_, _++_, map, map-append, append-assoc, append-nil, append-cancel-left}
 use Prim.Native.Nat.{ℕ, _+_, _-_, _<_, _≤_}
 use native.Mathlib.Omega.{arith}
@@ -13,9 +13,9 @@ use Rattle.definitions.specs.Names.{keep, free}
 use Rattle.definitions.specs.Simplify.{simplify, turn, tidy, over-kept}
 use Rattle.definitions.specs.Laws.Once.{free-once}
 use Rattle.text.specs.Words.{Token, var-token, token, tokens, kind-of, count-of, code, is-made, op-kind, block-kind}
-use Rattle.substitution.specs.Runs.{Within, Sifts, Lists, spells, staying, Safe as Copies}
+use Rattle.substitution.specs.Runs.{Within, Lists, Safe as Copies}
 use Rattle.substitution.specs.Slices.{kept-below, kept-twice, slice-next, slice-split, slice-kept, slice-cut}
-use Rattle.substitution.specs.Spelled.{vars-spelled, those-spelled}
+use Rattle.substitution.specs.Spelled.{vars-spelled}
 use Rattle.substitution.specs.Nodes.{root, below, sides, code-splits, Shapes, by-shape}
 use Rattle.substitution.specs.Keeping.{unmade-none, unmade-set, keeps-all}
 use Rattle.simplify.specs.Parts.{Becomes, Joins, Binds, Copied, Reduces, Safe}
@@ -189,20 +189,20 @@ module _ {S : List ℕ} {at end kind : ℕ} {O : List ℕ} {used : ℕ} {L O₁ 
           )
 
 -- over a block's body
-module _ {T M : Bytes} {S : List ℕ} {at end kind many : ℕ} {O : List ℕ} {used first : ℕ} {L O₁ L₁ : List ℕ} {n₁ u₁ : ℕ} {L₂ : List ℕ} {found : ℕ} {L₃ : List ℕ} {kept : ℕ} {O₂ : List ℕ} {v : ℕ}
+module _ {T M : Bytes} {S : List ℕ} {at end kind many : ℕ} {O : List ℕ} {used first : ℕ} {L O₁ L₁ : List ℕ} {n₁ u₁ : ℕ} {L₂ : List ℕ} {kept : ℕ} {O₂ : List ℕ} {v : ℕ}
     (w : Within at end (used + 1)) (fits : many ≤ end - at) (place : first ≡ used + 1 + many)
-    (s : Safe S (at + many) end O first L O₁ L₁ n₁ u₁) (f : Lists T M O₁ first u₁ L₁ L₂ found) (t : Sifts T M S at (at + many) true L₂ 0 found L₃ kept) (b : Binds kind L₃ kept O₁ used first u₁ O₂ v) where
-  pub block-safe : Safe S at end O used L O₂ L₃ n₁ v
+    (s : Safe S (at + many) end O first L O₁ L₁ n₁ u₁) (f : Lists T M S at (at + many) O₁ first u₁ L₁ L₂ kept) (b : Binds kind L₂ kept O₁ used first u₁ O₂ v) where
+  pub block-safe : Safe S at end O used L O₂ L₂ n₁ v
   block-safe =
       record {
         size = b .keeps .size ∙ s .size;
-        list = t .keeps .size ∙ f .size ∙ s .list;
+        list = f .size ∙ s .list;
         kept = b .keeps .kept ∙ kept-below used first O₁ O (omega arith) (s .kept);
         more = b .keeps .more;
         forth = omega (arith, s .forth);
         inside = s .inside;
         room = omega (arith, b .short, s .room);
-        origin = λ a l o. let p = s .origin a l o in let q = t .keeps .origin unmade-none (f .origin (p .0) (p .1)) in (b .keeps .origin q (p .0), q);
+        origin = λ a l o. let p = s .origin a l o in let q = f .origin (p .0) (p .1) in (b .keeps .origin q (p .0), q);
       }
 
   pub block-reduces : (q : Quant) (vs : List Name) (h g : Formula) → block-kind q ≡ kind → length vs ≡ many → Reduces T M S (at + many) end O first L O₁ n₁ u₁ (code h) (code g)
@@ -214,10 +214,8 @@ module _ {T M : Bytes} {S : List ℕ} {at end kind many : ℕ} {O : List ℕ} {u
       go z o l rest x =
           let cut = slice-cut (token T M) at many end S (map var-token vs) (code h ++ rest) (length-map vs var-token ∙ n) (omega (arith, w .stretch)) (omega (arith, w .inside)) (x ∙ append-assoc (map var-token vs) (code h) rest) in
           let y = k .ends z o l rest (cut .1) in
-          let names = f .names (s .more) (omega (arith, s .room, s .inside, w .inside)) (s .size ∙ o) (s .list ∙ l) g [] (y .1 ∙ sym (append-nil (code g))) in
-          let part = t .words (omega (arith, w .stretch, w .inside)) (f .short) (omega arith) z (f .size ∙ s .list ∙ l) in
-          let left = ap (tokens T M) part ∙ those-spelled T M (staying true (spells T M (slice at (at + many) S))) (take found L₂) (free g) names in (
+          let names = f .names (omega (arith, w .stretch, w .inside)) (s .more) (omega (arith, s .room, s .inside, w .inside)) z (s .size ∙ o) (s .list ∙ l) g [] (y .1 ∙ sym (append-nil (code g))) in (
             y .0,
-            b .formula (s .size ∙ o) (t .keeps .size ∙ f .size ∙ s .list ∙ l) T M q (keep vs (free g)) g e (rw (vars-spelled T M (slice at (at + many) S) vs (cut .0)) at left)
+            b .formula (s .size ∙ o) (f .size ∙ s .list ∙ l) T M q (keep vs (free g)) g e (rw (vars-spelled T M (slice at (at + many) S) vs (cut .0)) at names)
                 (omega (arith, keep-fits vs (free g) (free-once g))) (y .1),
           )

@@ -4,8 +4,7 @@
 use substitution::Went;
 use substitution::arguments;
 use substitution::count;
-use substitution::free;
-use substitution::sift;
+use substitution::free_among;
 use text::table::Table;
 ghost use mathlib.Core.Path.{_≡_};
 ghost use mathlib.Core.List.{List, _++_, map};
@@ -378,8 +377,7 @@ fn block<'a>(
     let body = at + many;
     let first = used + 1 + many;
     let inner = reduce(text, made, src, body, end, out, first, list);
-    let found = free(text, made, out, first, inner.used, list);
-    let kept = sift(text, made, src, at, body, true, list, 0, found);
+    let kept = free_among(text, made, src, at, body, out, first, inner.used, list);
     let done = bind(word % 16, list, kept, out, used, first, inner.used);
     Went {
         next: inner.next,

@@ -12,8 +12,7 @@ use Rattle.definitions.specs.Bytes.{Bytes, LF, TAB, same}
 use Rattle.definitions.specs.Limits.{house}
 use Rattle.definitions.specs.RuleText.{simple-name, is-name}
 use Rattle.definitions.specs.Convert.{Conversion}
-use Rattle.definitions.specs.Program.{do-word, conversion-word}
-use Rattle.convert.specs.Answers.{built}
+use Rattle.definitions.specs.Program.{do-word, conversion-word, conversions}
 use Rattle.definitions.specs.Laws.Bools.{by-cases, clash, same-truth, and-true-left}
 use Rattle.definitions.specs.Laws.Sets.{same-eq, same-refl}
 use Rattle.stream.specs.declared.machine.State.{State}
@@ -42,7 +41,7 @@ unfolding second-step
 second-missed k b c kept r s e f p = rw (p, sym e ∙ f)
 
 -- The first line.
-pub first-ended : (kept : Bytes) (size b n : ℕ) (s : State) → b ≡ LF → n ≡ number-of built (take size kept ++ (LF ∷ [])) → s ≡ chosen n → at s kept ≡ first-step kept size b
+pub first-ended : (kept : Bytes) (size b n : ℕ) (s : State) → b ≡ LF → n ≡ number-of conversions (take size kept ++ (LF ∷ [])) → s ≡ chosen n → at s kept ≡ first-step kept size b
 unfolding first-step
 first-ended kept size b n s l e p = rw (p, e, eq-eqb b LF l)
 

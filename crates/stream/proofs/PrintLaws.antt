@@ -12,7 +12,7 @@ use native.Mathlib.Nat.{zero-add}
 use Rattle.definitions.specs.Bytes.{Bytes, TAB, LF, decimal}
 use Rattle.definitions.specs.Limits.{house, lent, published}
 use Rattle.definitions.specs.Convert.{Conversion, to-simplified, to-nnf, to-pnf, to-snf, to-cnf, to-dnf, pnf-to-snf, snf-to-cnf, snf-to-dnf, Result, given, refused, Answer, accepted, not-given, fitted, laid, answer, out-after, work-after, convert}
-use Rattle.definitions.specs.Program.{conversion-word, done-word, field-line, question, refused-word, refusal, printed}
+use Rattle.definitions.specs.Program.{conversion-word, done-word, field-line, question, refused-word, refusal, printed, conversions}
 use Rattle.definitions.specs.Laws.Bools.{by-cases}
 use Rattle.text.specs.Writer.{Wrote, Puts}
 use Rattle.text.specs.PutLaws.{wrote-none, wrote-both, wrote-is}
@@ -21,7 +21,7 @@ use Rattle.stream.specs.declared.machine.State.{State}
 use Rattle.stream.specs.declared.machine.Phase.{Phase}
 use Rattle.stream.specs.Machine.{at, rule-tab, Print, no-print, refusal-print, done-print, rule-print, conversion-at, result-bytes, name-kept, text-kept, longest-label, print-bytes, print-work, due-print, print-in, last-print, last-in, last-second}
 use Rattle.convert.specs.declared.Answer
-use Rattle.convert.specs.Answers.{built, meaning, Meets}
+use Rattle.convert.specs.Answers.{meaning, Meets}
 use Rattle.stream.specs.declared.print.Said.{Said}
 use Rattle.stream.specs.Pushing.{Told, Put, Prints, print-room}
 
@@ -61,8 +61,8 @@ module _ {o₀ o₁ o₂ o₃ : Bytes} where
 pub at-place : (place k : ℕ) → place ≤ k → k ≤ place → conversion-at place ≡ conversion-at k
 at-place place k h l = let e : place ≡ k = omega arith in rw e
 
-pub past-places : (place : ℕ) → length built ≤ place → conversion-at place ≡ to-simplified
-past-places place h = List·getD-eq-default built to-simplified h
+pub past-places : (place : ℕ) → length conversions ≤ place → conversion-at place ≡ to-simplified
+past-places place h = List·getD-eq-default conversions to-simplified h
 
 pub word-short : (c : Conversion) → length (conversion-word c) ≤ 8
 word-short to-simplified = omega arith

@@ -4,9 +4,7 @@ use mathlib.Core.Bool.{cond}
 use mathlib.Core.List.{List, [], _∷_, _++_}
 use Prim.Native.Nat.{ℕ}
 use Rattle.definitions.specs.Bytes.{Bytes}
-use Rattle.definitions.specs.Limits.{Limits, house, published}
-use Rattle.definitions.specs.Convert.{Conversion}
-use Rattle.definitions.specs.Program.{cut, conversion-of, after-first, refusal}
+use Rattle.definitions.specs.Limits.{house, published}
 use Rattle.stream.specs.Machine.{Machine, Print, first-line, complete, step, due-print, last-print, opened, print-bytes}
 
 -- the machine before the first byte
@@ -42,11 +40,3 @@ joined (p ∷ ps) = p ++ joined ps
 unfoldable pub streams : Machine → Bytes → Bytes
 streams m [] = told (last-print m)
 streams m (b ∷ s) = cond (complete (m .state) b) (told (due-print m) ++ streams (opened m) s) (streams (step m b) s)
-
--- The file program with the conversions that are built: another word is a bad first line. With all nine it is the file program.
-abbrev pub lines-of : List Conversion → Limits → List Bytes → Bytes
-lines-of cs L [] = refusal 2 0
-lines-of cs L (l ∷ ls) = after-first L (conversion-of cs l) ls
-
-unfoldable pub program-of : List Conversion → Limits → Bytes → Bytes
-program-of cs L input = lines-of cs L (cut input)

@@ -10,20 +10,19 @@ use Rattle.definitions.specs.Bytes.{Bytes, TAB, LF, same}
 use Rattle.definitions.specs.Limits.{house, published}
 use Rattle.definitions.specs.RuleText.{simple-name, is-name}
 use Rattle.definitions.specs.Convert.{Conversion, to-simplified, convert, work-after}
-use Rattle.definitions.specs.Program.{do-word, rule-word, done-word, conversion-word, field-line, refusal, printed, question}
-use Rattle.convert.specs.Answers.{built}
+use Rattle.definitions.specs.Program.{do-word, rule-word, done-word, conversion-word, field-line, refusal, printed, question, conversions}
 use Rattle.stream.specs.declared.machine.State.{State}
 use Rattle.stream.specs.declared.machine.Phase.{Phase}
 use Rattle.stream.specs.declared.machine.Phase.the-variants.{First, Refused, Second, Label, Text}
 
--- A conversion as a number: its place among those that are built. The place of the one that a first line names; past them all where it
+-- A conversion as a number: its place among the nine. The place of the one that a first line names; past them all where it
 -- names none.
 unfoldable pub number-of : List Conversion → Bytes → ℕ
 number-of [] l = 0
 number-of (c ∷ cs) l = let n = number-of cs l in cond (same l (field-line do-word (conversion-word c))) 0 (suc n)
 
 abbrev pub conversion-at : ℕ → Conversion
-conversion-at n = getD built n to-simplified
+conversion-at n = getD conversions n to-simplified
 
 -- how a rule line begins
 abbrev pub rule-tab : Bytes
@@ -60,7 +59,7 @@ in-text c good matched label size = record { phase = Text; conversion = c; good 
 
 -- behind a first line: a conversion was chosen, or none
 abbrev pub chosen : ℕ → State
-chosen c = cond (ltb c (length built)) (second-line c 0) refused-file
+chosen c = cond (ltb c (length conversions)) (second-line c 0) refused-file
 
 -- a byte is kept behind the others, where there is room
 abbrev pub grown : ℕ → Bytes → ℕ
@@ -81,7 +80,7 @@ room = 34845
 unfoldable pub first-step : Bytes → ℕ → ℕ → Machine
 first-step kept size b =
     cond (eqb b LF)
-    (record { state = chosen (number-of built (take size kept ++ (LF ∷ []))); kept = kept })
+    (record { state = chosen (number-of conversions (take size kept ++ (LF ∷ []))); kept = kept })
     (cond (ltb size longest-first)
     (record { state = first-line (grown size kept); kept = set kept size b })
     (record { state = refused-file; kept = kept }))

@@ -8,7 +8,7 @@ ghost use lib.ListN.{length, take, drop, set};
 ghost use Rattle.definitions.specs.Bytes.{Bytes, LF as lf};
 ghost use Rattle.definitions.specs.Limits.{house};
 ghost use Rattle.definitions.specs.RuleText.{simple-name, is-name};
-ghost use Rattle.convert.specs.Answers.{built};
+ghost use Rattle.definitions.specs.Program.{conversions};
 ghost use Rattle.stream.specs.Machine.{at, number-of, matches as matches-of, next-matched, grown, first-line, refused-file, second-line, in-label, in-text, chosen, first-step, second-step, label-step, text-step, step as step-of};
 
 const TAB: u8 = 9;
@@ -20,8 +20,8 @@ const FIRST: usize = 11;
 
 const LABEL: usize = 24;
 
-// How many conversions are built.
-const BUILT: usize = 2;
+// How many conversions there are.
+const CONVERSIONS: usize = 9;
 
 // How `rule` TAB is counted: all five bytes; five also where a line has gone another way.
 const RULE: usize = 5;
@@ -35,7 +35,7 @@ pub enum Phase {
     Text,
 }
 
-// The conversion is its place among those that are built. `good` is whether the label is, `matched` how many bytes of `rule` TAB the line has
+// The conversion is its place among the nine. `good` is whether the label is, `matched` how many bytes of `rule` TAB the line has
 // begun with, `label` how long the label is, and `size` how many bytes are kept: the first line; or the label, and behind it the text.
 pub struct State {
     pub phase: Phase,
@@ -151,9 +151,9 @@ fn matched_behind(matched: usize, b: u8) -> usize
     RULE
 }
 
-// The place of the conversion that a first line without its LF names, past them all where it names none that is built.
+// The place of the conversion that a first line without its LF names, past them all where it names none.
 fn conversion(line: &[u8]) -> usize
-    ensures { λ r. ⌜ r ≡ number-of built (now (line .entry) ++ (lf ∷ [])) ⌝ }
+    ensures { λ r. ⌜ r ≡ number-of conversions (now (line .entry) ++ (lf ∷ [])) ⌝ }
 {
     if names::same_name(line, b"do\tsimplify") {
         return 0;
@@ -161,12 +161,33 @@ fn conversion(line: &[u8]) -> usize
     if names::same_name(line, b"do\tnnf") {
         return 1;
     }
-    BUILT
+    if names::same_name(line, b"do\tpnf") {
+        return 2;
+    }
+    if names::same_name(line, b"do\tsnf") {
+        return 3;
+    }
+    if names::same_name(line, b"do\tcnf") {
+        return 4;
+    }
+    if names::same_name(line, b"do\tdnf") {
+        return 5;
+    }
+    if names::same_name(line, b"do\tpnf-snf") {
+        return 6;
+    }
+    if names::same_name(line, b"do\tsnf-cnf") {
+        return 7;
+    }
+    if names::same_name(line, b"do\tsnf-dnf") {
+        return 8;
+    }
+    CONVERSIONS
 }
 
 // The same for the first line that is kept.
 fn kept_conversion(kept: &[u8], size: usize) -> usize
-    ensures { λ r. ⌜ r ≡ number-of built (take size (now (kept .entry)) ++ (lf ∷ [])) ⌝ }
+    ensures { λ r. ⌜ r ≡ number-of conversions (take size (now (kept .entry)) ++ (lf ∷ [])) ⌝ }
 {
     conversion(names::clip(kept, 0, size))
 }
@@ -182,7 +203,7 @@ fn kept_name(kept: &[u8], size: usize) -> bool
 fn behind_first(conversion: usize) -> State
     ensures { λ r. ⌜ r ≡ chosen conversion ⌝ }
 {
-    if conversion < BUILT {
+    if conversion < CONVERSIONS {
         return at_second(conversion, 0);
     }
     refused()

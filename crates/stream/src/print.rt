@@ -72,7 +72,7 @@ fn put_refusal(out: &mut [u8], start: usize, number: u64, place: u64) -> usize
     writer::put_byte(out, fourth, LF)
 }
 
-// Writes the name of the conversion at a place. No place past those that are built comes up.
+// Writes the name of the conversion at a place. No place past the nine comes up.
 fn put_conversion(out: &mut [u8], start: usize, place: usize) -> usize
     requires { ⌜ start + 8 ≤ length (now out) ⌝ }
     ensures { λ r. ⌜ Wrote (now (out .entry)) start (conversion-word (conversion-at place)) (now (out .exit)) r ⌝ }
@@ -82,6 +82,27 @@ fn put_conversion(out: &mut [u8], start: usize, place: usize) -> usize
     }
     if place <= 1 {
         return writer::put_run(out, start, b"nnf");
+    }
+    if place <= 2 {
+        return writer::put_run(out, start, b"pnf");
+    }
+    if place <= 3 {
+        return writer::put_run(out, start, b"snf");
+    }
+    if place <= 4 {
+        return writer::put_run(out, start, b"cnf");
+    }
+    if place <= 5 {
+        return writer::put_run(out, start, b"dnf");
+    }
+    if place <= 6 {
+        return writer::put_run(out, start, b"pnf-snf");
+    }
+    if place <= 7 {
+        return writer::put_run(out, start, b"snf-cnf");
+    }
+    if place <= 8 {
+        return writer::put_run(out, start, b"snf-dnf");
     }
     writer::put_run(out, start, b"simplify")
 }
@@ -95,6 +116,27 @@ fn conversion_at(place: usize) -> Conversion
     }
     if place <= 1 {
         return Conversion::Nnf;
+    }
+    if place <= 2 {
+        return Conversion::Pnf;
+    }
+    if place <= 3 {
+        return Conversion::Snf;
+    }
+    if place <= 4 {
+        return Conversion::Cnf;
+    }
+    if place <= 5 {
+        return Conversion::Dnf;
+    }
+    if place <= 6 {
+        return Conversion::PnfSnf;
+    }
+    if place <= 7 {
+        return Conversion::SnfCnf;
+    }
+    if place <= 8 {
+        return Conversion::SnfDnf;
     }
     Conversion::Simplify
 }

@@ -3,7 +3,7 @@ use mathlib.Core.Path.{_≡_, refl, sym, ap, _∙_}
 use mathlib.Core.Bool.{Bool, true, false, not, _&&_, _||_, and-comm}
 use mathlib.Core.List.{List, [], _∷_, _++_, append-assoc, append-nil}
 use Rattle.definitions.specs.Syntax.{Name}
-use Rattle.definitions.specs.Names.{mem, filter, union, without}
+use Rattle.definitions.specs.Names.{mem, filter, union, without, keep}
 use Rattle.definitions.specs.Laws.Bools.{by-cases}
 use Rattle.definitions.specs.Laws.Sets.{mem-append, mem-filter}
 
@@ -27,12 +27,9 @@ unfolding filter
 filter-both p q [] = refl
 filter-both p q (x ∷ l) = by-cases (p x) (λ t. rw (t, filter-both p q l)) (λ f. rw (f, filter-both p q l))
 
--- names taken out in either order
-pub without-swap : (a b l : List Name) → without a (without b l) ≡ without b (without a l)
-without-swap a b l =
-    filter-both (λ x. not (mem x b)) (λ x. not (mem x a)) l
-    ∙ filter-like _ _ l (λ x. and-comm (not (mem x b)) (not (mem x a)))
-    ∙ sym (filter-both (λ x. not (mem x a)) (λ x. not (mem x b)) l)
+-- names sifted in either order
+pub filter-swap : (p q : Name → Bool) (l : List Name) → filter p (filter q l) ≡ filter q (filter p l)
+filter-swap p q l = filter-both q p l ∙ filter-like _ _ l (λ x. and-comm (q x) (p x)) ∙ sym (filter-both p q l)
 
 -- nothing before a list, and nothing behind it
 pub union-nothing : (l : List Name) → union [] l ≡ l
@@ -57,3 +54,18 @@ union-assoc l a b =
 
     tests : (x : Name) → not (mem x (union l a)) ≡ (not (mem x a) && not (mem x l))
     tests x = rw (mem-append x l (without l a), mem-filter x (λ y. not (mem y l)) a) (go (mem x l) (mem x a))
+
+-- of two lists joined, those that are asked for
+pub keep-union : (v a b : List Name) → keep v (union a b) ≡ union (keep v a) (keep v b)
+keep-union v a b =
+    filter-append (λ x. mem x v) a (without a b)
+    ∙ ap (λ (c : List Name). keep v a ++ c) (filter-both (λ x. not (mem x a)) (λ x. mem x v) b ∙ filter-like _ _ b tests ∙ sym (filter-both (λ x. mem x v) (λ x. not (mem x (keep v a))) b))
+  where
+    go : (m n : Bool) → (not m && n) ≡ (n && not (m && n))
+    go true true = refl
+    go true false = refl
+    go false true = refl
+    go false false = refl
+
+    tests : (x : Name) → (not (mem x a) && mem x v) ≡ (mem x v && not (mem x (keep v a)))
+    tests x = rw (mem-filter x (λ y. mem y v) a) (go (mem x a) (mem x v))

@@ -1,7 +1,9 @@
 -- Refusal 9 leaves both buffers; else the answer is that of the inside, and work is cleared.
 use borrow.Author.Needs.{needs}
 use native.Mathlib.Omega.{arith}
-use mathlib.Core.Path.{refl}
+use mathlib.Core.Path.{refl, ap, _∙_}
+use Prim.Native.Nat.{ℕ}
+use lib.ListN.{replicate}
 use Rattle.convert.proofs.Shown.{too-short, long-enough}
 use Rattle.convert.proofs.convert.Statement.{statement}
 use Rattle.convert.proofs.convert.Tie as tie
@@ -14,4 +16,5 @@ convert-spec =
     (λ c κs. search needs)  -- clear-requires
     (λ c. search needs)  -- same-length
     (λ c. search needs)  -- same-length-2
-    (λ c. long-enough _ _ _ _ (omega arith) (c .before .before .before .before .before .before .inside .ensures) (c .before .before .clear .ensures)))  -- returns-2
+    (λ c. let w = c .before .before .before .before .before .before .before .before .before .before .before .if1 .left in
+    long-enough _ _ _ _ (omega (arith, w)) (c .before .before .before .before .before .before .before .before .inside .ensures (omega (arith, w))) (c .before .before .clear .ensures ∙ ap (λ (n : ℕ). replicate n 0) (c .before .before .before .before .before .before .before .before .inside .kept .1 .1 .0))))  -- returns-2

@@ -12,11 +12,9 @@ inside-spec =
     (λ c. search needs)  -- enum-known-verdict
     (λ c. search needs)  -- enum-known-verdict-2
     (λ c. search needs)  -- enum-told
-    (λ c κs. search needs)  -- negation-of-requires
-    (λ c. is-refused (was-malformed _ _ (c .before .before .before .read .ensures .0) (c .before .verdict .given .1) _) refl)  -- returns
-    (λ c. is-refused (was-large _ _ (c .before .before .before .read .ensures .0) (c .before .verdict2 .given .1) _) refl)  -- returns-2
+    (λ c κs. search needs)  -- staged-requires
+    (λ c. λ m. is-refused (was-malformed _ _ (c .before .before .before .read .ensures .0) (c .before .verdict .given .1) _) refl)  -- returns
+    (λ c. λ m. is-refused (was-large _ _ (c .before .before .before .read .ensures .0) (c .before .verdict2 .given .1) _) refl)  -- returns-2
     (λ c. search needs)  -- same-length
-    (λ c.
-    let d = c .before .before .before .before .before in
-    let t = was-tree _ _ (d .before .before .read .ensures .0) (d .enum-told .given .1) _ in
-    as-well (sym (t .3)) (c .before .before .staged .ensures (t .0) (t .1) (t .2 _))))  -- returns-3
+    (λ c. search needs)  -- same-length-2
+    (λ c. λ m. let t = was-tree _ _ (c .before .before .before .before .before .before .before .before .before .before .read .ensures .0) (c .before .before .before .before .before .before .before .before .enum-told .given .1) _ in as-well (sym (t .2)) (c .before .before .before .before .staged .ensures m (t .0) (t .1))))  -- returns-3

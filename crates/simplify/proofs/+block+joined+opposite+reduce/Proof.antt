@@ -27,8 +27,7 @@ use Rattle.simplify.proofs.copy.Reads as copy-reads
 use Rattle.simplify.proofs.tidy.Reads as tidy-reads
 use Rattle.simplify.proofs.turn.Reads as turn-reads
 use Rattle.substitution.proofs.count.Reads as count-reads
-use Rattle.substitution.proofs.free.Reads as free-reads
-use Rattle.substitution.proofs.sift.Reads as sift-reads
+use Rattle.substitution.proofs.free_among.Reads as free-reads
 use Rattle.simplify.proofs.+block+joined+opposite+reduce.{statement}
 use Rattle.simplify.proofs.+block+joined+opposite+reduce.Tie.{close}
 
@@ -71,7 +70,7 @@ reduce-below t = and 4 reduce-kinds.ps (falls 4 reduce-kinds.ps _<_ μ-reduce t)
 
 abbrev block-calls : ℕ → block-lts.Claims
 block-calls t =
-    (count-reads.Asked, count-reads.Learnt, reduce-below t, reduce.Post, free-reads.Asked, free-reads.Learnt, sift-reads.Asked, sift-reads.Learnt, bind-reads.Asked, bind-reads.Learnt)
+    (count-reads.Asked, count-reads.Learnt, reduce-below t, reduce.Post, free-reads.Asked, free-reads.Learnt, bind-reads.Asked, bind-reads.Learnt)
 
 block-meets : {M : Type 1} (t : ℕ) → block-lts.Closed (block-calls t) (block-at t) block.Post M
 block-meets t =
@@ -84,12 +83,11 @@ block-meets t =
     (λ c. omega arith)
     (λ c κs. omega arith)
     (λ c κs. tt)
-    (λ c κs. tt)
-    (λ c κs. let r = c .before .before .before .before .before .before .before in let i = r .before .before .before .before in let s = r .reduce .ensures .0 in omega (arith, s .more, s .room, s .inside, i .count .ensures .1, i .before .before .before .pre .1))
+    (λ c κs. let r = c .before .before .before .before .before in let i = r .before .before .before .before in let s = r .reduce .ensures .0 in omega (arith, s .more, s .room, s .inside, i .count .ensures .1, i .before .before .before .pre .1))
     (λ c.
-    let x = c .before .before .before in let f = x .before .before in let r = f .before .before .before in let i = r .before .before .before in let w = i .before .before .before .before .pre .1 in (
-      block-safe w (i .if1 .left) refl (r .reduce .ensures .0) (f .free .ensures) (x .sift .ensures) (c .bind .ensures),
-      λ q vs g e n. block-reduces w (i .if1 .left) refl (r .reduce .ensures .0) (f .free .ensures) (x .sift .ensures) (c .bind .ensures) q vs g (simplify g) e (n ∙ sym (i .before .count .ensures .0)) (r .reduce .ensures .1 g),
+    let f = c .before .before .before in let r = f .before .before .before in let i = r .before .before .before in let w = i .before .before .before .before .pre .1 in (
+      block-safe w (i .if1 .left) refl (r .reduce .ensures .0) (f .free-among .ensures) (c .bind .ensures),
+      λ q vs g e n. block-reduces w (i .if1 .left) refl (r .reduce .ensures .0) (f .free-among .ensures) (c .bind .ensures) q vs g (simplify g) e (n ∙ sym (i .before .count .ensures .0)) (r .reduce .ensures .1 g),
     ))
 
 abbrev joined-calls : ℕ → joined-lts.Claims

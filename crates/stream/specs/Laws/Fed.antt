@@ -11,15 +11,14 @@ use lib.Dec.{eqb, ltb}
 use lib.ListN.{length, take, drop, getD, set, length-append, length-set}
 use lib.Seq.{take-suc-set, getD-at}
 use Rattle.definitions.specs.Bytes.{Bytes, TAB, LF, null, same}
-use Rattle.definitions.specs.Limits.{Limits, house, published}
+use Rattle.definitions.specs.Limits.{house, published}
 use Rattle.definitions.specs.Convert.{Conversion, to-simplified, to-nnf, to-pnf, to-snf, to-cnf, to-dnf, pnf-to-snf, snf-to-cnf, snf-to-dnf}
 use Rattle.definitions.specs.Program.{Parts, cut, parts, do-word, done-word, conversion-word, conversions, conversion-of, field-line, refusal, rules-output, file-output, after-first, of-lines, program}
 use Rattle.definitions.specs.Laws.Bools.{by-cases, clash, and-true-left, and-true-right}
 use Rattle.definitions.specs.Laws.Sets.{same-eq}
 use Rattle.definitions.specs.Laws.Pieces.{Clear, clear-append}
-use Rattle.convert.specs.Answers.{built}
 use Rattle.stream.specs.Machine.{room, Machine, Print, Run, rule-tab, matches, complete, second-line, refused-file, first-line, chosen, grown, step, second-step, first-step, due-print, last-print, opened, print-bytes, conversion-at, number-of, longest-first, run}
-use Rattle.stream.specs.Feeding.{told, streams, begun, Through, behind, through, fed, joined, lines-of, program-of}
+use Rattle.stream.specs.Feeding.{told, streams, begun, Through, behind, through, fed, joined}
 use Rattle.stream.specs.Laws.Rules.{line-of, after-line, line-at, first-rule, pending, cut-line, line-ends, line-matches, rule-begins, line-misses}
 use Rattle.stream.specs.Laws.Labels.{line-of-clear, after-line-clear, not-clear}
 use Rattle.stream.specs.Laws.Told.{rules, Rule-streams, rule-streams, not-last}
@@ -70,8 +69,8 @@ no-conversion l h (c ∷ cs) =
     (λ t. absurd (h c (same-eq l (do-line c) t)))
     (λ f. rw f (no-conversion l h cs))
 
-unended-none : (l : Bytes) → Clear LF l → conversion-of built l ≡ none
-unended-none l h = no-conversion l (λ c e. not-clear (do-word ++ (TAB ∷ conversion-word c)) (rw e at h)) built
+unended-none : (l : Bytes) → Clear LF l → conversion-of conversions l ≡ none
+unended-none l h = no-conversion l (λ c e. not-clear (do-word ++ (TAB ∷ conversion-word c)) (rw e at h)) conversions
 
 too-long : (l r : Bytes) (b : ℕ) → length l ≡ 11 → eqb b LF ≡ false → (c : Conversion) → l ++ (b ∷ r) ≡ do-line c → ⊥
 too-long l r b n f to-simplified e = eqb-false b LF f (sym (getD-at l b r 0 11 n) ∙ ap (λ s. getD s 11 0) e)
@@ -90,12 +89,12 @@ cut-first (x ∷ l) b s h =
     cut-line x (l ++ (b ∷ s))
     ∙ rw (line-of-clear (x ∷ l) (b ∷ s) h, after-line-clear (x ∷ l) (b ∷ s) h)
 
-first-ends : (l : Bytes) → Clear LF l → program-of built house l ≡ refusal 2 0
-unfolding program-of cut line-of after-line
+first-ends : (l : Bytes) → Clear LF l → program house l ≡ refusal 2 0
+unfolding program cut line-of after-line
 first-ends [] h = refl
 first-ends (x ∷ l) h =
-    ap (lines-of built house) (cut-line x l)
-    ∙ ap (λ s. lines-of built house (s ∷ cut (after-line (x ∷ l)))) (ap line-of (sym (append-nil (x ∷ l))) ∙ line-of-clear (x ∷ l) [] h ∙ append-nil (x ∷ l))
+    ap (of-lines house) (cut-line x l)
+    ∙ ap (λ s. of-lines house (s ∷ cut (after-line (x ∷ l)))) (ap line-of (sym (append-nil (x ∷ l))) ∙ line-of-clear (x ∷ l) [] h ∙ append-nil (x ∷ l))
     ∙ rw (unended-none (x ∷ l) h)
 
 -- the conversion that a first line names is that at its place
@@ -119,24 +118,24 @@ module _ (l : Bytes) (d : Conversion) where
       lower : same l (do-line c) ≡ false → suc (length cs) ≤ number-of (c ∷ cs) l → length cs ≤ number-of cs l
       lower f k = let e : number-of (c ∷ cs) l ≡ suc (number-of cs l) = rw f in omega arith
 
-chosen-streams : (l s kept : Bytes) → room ≤ length kept → streams (record { state = chosen (number-of built l); kept = kept }) s ≡ after-first house (conversion-of built l) (cut s)
+chosen-streams : (l s kept : Bytes) → room ≤ length kept → streams (record { state = chosen (number-of conversions l); kept = kept }) s ≡ after-first house (conversion-of conversions l) (cut s)
 chosen-streams l s kept r =
-    by-cases (ltb (number-of built l) (length built))
-    (λ t. rw (t, named-at l to-simplified built (ltb-true (number-of built l) (length built) t)) (second-streams s (number-of built l) 0 kept (omega arith) r))
-    (λ f. rw (f, none-at l to-simplified built (ltb-false (number-of built l) (length built) f)) (refused-streams s kept))
+    by-cases (ltb (number-of conversions l) (length conversions))
+    (λ t. rw (t, named-at l to-simplified conversions (ltb-true (number-of conversions l) (length conversions) t)) (second-streams s (number-of conversions l) 0 kept (omega arith) r))
+    (λ f. rw (f, none-at l to-simplified conversions (ltb-false (number-of conversions l) (length conversions) f)) (refused-streams s kept))
 
-first-named : (l : Bytes) (b : ℕ) (s : Bytes) → Clear LF l → eqb b LF ≡ true → program-of built house (l ++ (b ∷ s)) ≡ after-first house (conversion-of built (l ++ (LF ∷ []))) (cut s)
-unfolding program-of line-of after-line
-first-named l b s h t = ap (lines-of built house) (cut-first l b s h) ∙ rw t
+first-named : (l : Bytes) (b : ℕ) (s : Bytes) → Clear LF l → eqb b LF ≡ true → program house (l ++ (b ∷ s)) ≡ after-first house (conversion-of conversions (l ++ (LF ∷ []))) (cut s)
+unfolding program line-of after-line
+first-named l b s h t = ap (of-lines house) (cut-first l b s h) ∙ rw t
 
-first-long : (l : Bytes) (b : ℕ) (s : Bytes) → Clear LF l → length l ≡ 11 → eqb b LF ≡ false → program-of built house (l ++ (b ∷ s)) ≡ refusal 2 0
-unfolding program-of line-of
+first-long : (l : Bytes) (b : ℕ) (s : Bytes) → Clear LF l → length l ≡ 11 → eqb b LF ≡ false → program house (l ++ (b ∷ s)) ≡ refusal 2 0
+unfolding program line-of
 first-long l b s h n f =
-    ap (lines-of built house) (cut-first l b s h)
-    ∙ rw (f, no-conversion (l ++ (b ∷ line-of s)) (too-long l (line-of s) b n f) built)
+    ap (of-lines house) (cut-first l b s h)
+    ∙ rw (f, no-conversion (l ++ (b ∷ line-of s)) (too-long l (line-of s) b n f) conversions)
 
 first-streams : (s : Bytes) (size : ℕ) (kept l : Bytes) → room ≤ length kept → take size kept ≡ l → length l ≡ size → size ≤ longest-first → Clear LF l
-    → streams (record { state = first-line size; kept = kept }) s ≡ program-of built house (l ++ s)
+    → streams (record { state = first-line size; kept = kept }) s ≡ program house (l ++ s)
 unfolding streams step first-step last-print print-bytes
 first-streams [] size kept l r e n few h = sym (rw (append-nil l) (first-ends l h))
 first-streams (b ∷ s) size kept l r e n few h =
@@ -147,8 +146,8 @@ first-streams (b ∷ s) size kept l r e n few h =
     (λ g. rw (f, g) (refused-streams s kept ∙ sym (first-long l b s h (omega (arith, ltb-false size longest-first g)) f))))
   where
     goes-on : eqb b LF ≡ false → size < longest-first
-        → ((size : ℕ) (kept l : Bytes) → room ≤ length kept → take size kept ≡ l → length l ≡ size → size ≤ longest-first → Clear LF l → streams (record { state = first-line size; kept = kept }) s ≡ program-of built house (l ++ s))
-        → streams (record { state = first-line (grown size kept); kept = set kept size b }) s ≡ program-of built house (l ++ (b ∷ s))
+        → ((size : ℕ) (kept l : Bytes) → room ≤ length kept → take size kept ≡ l → length l ≡ size → size ≤ longest-first → Clear LF l → streams (record { state = first-line size; kept = kept }) s ≡ program house (l ++ s))
+        → streams (record { state = first-line (grown size kept); kept = set kept size b }) s ≡ program house (l ++ (b ∷ s))
     goes-on f less ih =
         let fits : size < length kept = omega arith in
         let longer : length (l ++ (b ∷ [])) ≡ suc size = omega (arith, length-append l (b ∷ [])) in
@@ -156,7 +155,7 @@ first-streams (b ∷ s) size kept l r e n few h =
         rw (lt-ltb size (length kept) fits, sym (append-assoc l (b ∷ []) s))
         (ih (suc size) (set kept size b) (l ++ (b ∷ [])) (omega (arith, length-set kept size b)) taken longer less (clear-append LF l (b ∷ []) h (f, tt)))
 
-pub whole-input : (kept s : Bytes) → room ≤ length kept → streams (begun kept) s ≡ program-of built house s
+pub whole-input : (kept s : Bytes) → room ≤ length kept → streams (begun kept) s ≡ program house s
 whole-input kept s r = first-streams s 0 kept [] r refl refl (omega arith) tt
 
 -- running a piece through is one run, and running through what the run has left
@@ -178,14 +177,5 @@ unfolding fed joined streams
 fed-streams m [] = refl
 fed-streams m (p ∷ ps) = rw (fed-streams ((through m p) .machine) ps) (sym (streams-through m p (joined ps)))
 
-pub any-cutting : (kept : Bytes) (ps : List Bytes) → room ≤ length kept → fed (begun kept) ps ≡ program-of built house (joined ps)
+pub any-cutting : (kept : Bytes) (ps : List Bytes) → room ≤ length kept → fed (begun kept) ps ≡ program house (joined ps)
 any-cutting kept ps r = fed-streams (begun kept) ps ∙ whole-input kept (joined ps) r
-
--- with all nine conversions it is document 01's program
-pub all-built : (L : Limits) (s : Bytes) → program-of conversions L s ≡ program L s
-unfolding program-of program
-all-built L s = go (cut s)
-  where
-    go : (ls : List Bytes) → lines-of conversions L ls ≡ of-lines L ls
-    go [] = refl
-    go (l ∷ ls) = refl

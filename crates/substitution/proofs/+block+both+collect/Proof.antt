@@ -24,32 +24,32 @@ use Rattle.substitution.proofs.terms.Reads as terms-reads
 use Rattle.substitution.proofs.+block+both+collect.{statement}
 use Rattle.substitution.proofs.+block+both+collect.Tie.{close}
 
-abbrev μ-block : Measures 3 block-kinds.ps ℕ
-μ-block κs a = 2 * (a .1 .1 .1 .1 .0 - a .1 .1 .1 .0) + 1
+abbrev μ-block : Measures 4 block-kinds.ps ℕ
+μ-block κs a = 2 * (a .1 .1 .1 .1 .1 .1 .1 .0 - a .1 .1 .1 .1 .1 .1 .0) + 1
 
-abbrev μ-both : Measures 3 both-kinds.ps ℕ
-μ-both κs a = 2 * (a .1 .1 .1 .1 .0 - a .1 .1 .1 .0) + 1
+abbrev μ-both : Measures 4 both-kinds.ps ℕ
+μ-both κs a = 2 * (a .1 .1 .1 .1 .1 .1 .1 .0 - a .1 .1 .1 .1 .1 .1 .0) + 1
 
-abbrev μ-collect : Measures 3 collect-kinds.ps ℕ
-μ-collect κs a = 2 * (a .1 .1 .1 .1 .0 - a .1 .1 .1 .0)
+abbrev μ-collect : Measures 4 collect-kinds.ps ℕ
+μ-collect κs a = 2 * (a .1 .1 .1 .1 .1 .1 .1 .0 - a .1 .1 .1 .1 .1 .1 .0)
 
-abbrev block-at : ℕ → In 3 block-kinds.ps
-block-at t = and 3 block-kinds.ps (is 3 block-kinds.ps μ-block t) block.Pre
+abbrev block-at : ℕ → In 4 block-kinds.ps
+block-at t = and 4 block-kinds.ps (is 4 block-kinds.ps μ-block t) block.Pre
 
-abbrev block-below : ℕ → In 3 block-kinds.ps
-block-below t = and 3 block-kinds.ps (falls 3 block-kinds.ps _<_ μ-block t) block.Pre
+abbrev block-below : ℕ → In 4 block-kinds.ps
+block-below t = and 4 block-kinds.ps (falls 4 block-kinds.ps _<_ μ-block t) block.Pre
 
-abbrev both-at : ℕ → In 3 both-kinds.ps
-both-at t = and 3 both-kinds.ps (is 3 both-kinds.ps μ-both t) both.Pre
+abbrev both-at : ℕ → In 4 both-kinds.ps
+both-at t = and 4 both-kinds.ps (is 4 both-kinds.ps μ-both t) both.Pre
 
-abbrev both-below : ℕ → In 3 both-kinds.ps
-both-below t = and 3 both-kinds.ps (falls 3 both-kinds.ps _<_ μ-both t) both.Pre
+abbrev both-below : ℕ → In 4 both-kinds.ps
+both-below t = and 4 both-kinds.ps (falls 4 both-kinds.ps _<_ μ-both t) both.Pre
 
-abbrev collect-at : ℕ → In 3 collect-kinds.ps
-collect-at t = and 3 collect-kinds.ps (is 3 collect-kinds.ps μ-collect t) collect.Pre
+abbrev collect-at : ℕ → In 4 collect-kinds.ps
+collect-at t = and 4 collect-kinds.ps (is 4 collect-kinds.ps μ-collect t) collect.Pre
 
-abbrev collect-below : ℕ → In 3 collect-kinds.ps
-collect-below t = and 3 collect-kinds.ps (falls 3 collect-kinds.ps _<_ μ-collect t) collect.Pre
+abbrev collect-below : ℕ → In 4 collect-kinds.ps
+collect-below t = and 4 collect-kinds.ps (falls 4 collect-kinds.ps _<_ μ-collect t) collect.Pre
 
 abbrev block-calls : ℕ → block-lts.Claims
 block-calls t = (collect-below t, collect.Post, sift-reads.Asked, sift-reads.Learnt)

@@ -17,12 +17,13 @@ among-spec =
     tie.close (tie.spec
     Inv-loop
     μ-loop
+    (λ c l. absurd (omega arith))
     (λ c. record { on = λ e. refl })
     (λ c. omega arith)
     (λ c. omega arith)
     (λ c κs. tt)
-    (λ c. found (c .before .before .before .before .loop .inv) (omega arith) (omega arith) (sym (c .if1 .taken) ∙ c .before .spelled-same .ensures))
+    (λ c _. found (c .before .before .before .before .loop .inv) (omega arith) (omega arith) (sym (c .if2 .taken) ∙ c .before .spelled-same .ensures))
     (λ c. omega arith)
     (λ c. omega arith)
-    (λ c. passed (c .before .before .before .before .loop .inv) (omega arith) (omega arith) (sym (c .if1 .left) ∙ c .before .spelled-same .ensures))
-    (λ c. missing (c .before .loop .inv) (omega arith) (omega arith)))
+    (λ c. passed (c .before .before .before .before .loop .inv) (omega arith) (omega arith) (sym (c .if2 .left) ∙ c .before .spelled-same .ensures))
+    (λ c _. missing (c .before .loop .inv) (omega arith) (omega arith)))

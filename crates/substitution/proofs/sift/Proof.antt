@@ -7,10 +7,10 @@ use Rattle.substitution.proofs.sift.Statement.{statement}
 use Rattle.substitution.proofs.sift.Tie as tie
 
 abbrev Inv-loop : tie.InvT-loop
-Inv-loop text made src low high wanted list₀ from to next₀ kept₀ list next kept = Sifting text made src low high wanted list₀ from to list next kept
+Inv-loop text made src low high list₀ from to next₀ kept₀ list next kept = Sifting text made src low high list₀ from to list next kept
 
 abbrev μ-loop : tie.MeasureT-loop
-μ-loop text made src low high wanted list₀ from to next₀ kept₀ list next kept = to - next
+μ-loop text made src low high list₀ from to next₀ kept₀ list next kept = to - next
 
 pub sift-spec : {M : Type 1} → statement M
 sift-spec =

@@ -7,10 +7,10 @@ use Rattle.substitution.proofs.terms.Statement.{statement}
 use Rattle.substitution.proofs.terms.Tie as tie
 
 abbrev Inv-loop : tie.InvT-loop
-Inv-loop text made src at end due list₀ used next₀ have₀ left₀ list next have left = Looping text made src at end due list₀ used list next have left
+Inv-loop text made names low high src at end due list₀ used next₀ have₀ left₀ list next have left = Looping text made names low high src at end due list₀ used list next have left
 
 abbrev μ-loop : tie.MeasureT-loop
-μ-loop text made src at end due list₀ used next₀ have₀ left₀ list next have left = end - next
+μ-loop text made names low high src at end due list₀ used next₀ have₀ left₀ list next have left = end - next
 
 pub terms-spec : {M : Type 1} → statement M
 terms-spec =

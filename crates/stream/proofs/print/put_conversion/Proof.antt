@@ -21,4 +21,32 @@ put-conversion-spec =
     (λ c. search needs)  -- slice-aggregate-put-run-3
     (λ c κs. search needs)  -- put-run-requires-3
     (λ c. search needs)  -- same-length-3
-    (λ c. let a = c .before .before .before .before .before .before .before .before .args in word-put _ _ _ _ (a .place) to-simplified (omega arith) (past-places (a .place) (omega arith)) (c .before .before .put-run3 .ensures)))  -- returns-3
+    (λ c. let a = c .before .before .before .before .before .before .before .before .before .args in word-put _ _ _ _ (a .place) (conversion-at 2) (omega arith) (at-place (a .place) 2 (omega arith) (omega arith)) (c .before .before .put-run3 .ensures))  -- returns-3
+    (λ c. search needs)  -- slice-aggregate-put-run-4
+    (λ c κs. search needs)  -- put-run-requires-4
+    (λ c. search needs)  -- same-length-4
+    (λ c. let a = c .before .before .before .before .before .before .before .before .before .before .args in word-put _ _ _ _ (a .place) (conversion-at 3) (omega arith) (at-place (a .place) 3 (omega arith) (omega arith)) (c .before .before .put-run4 .ensures))  -- returns-4
+    (λ c. search needs)  -- slice-aggregate-put-run-5
+    (λ c κs. search needs)  -- put-run-requires-5
+    (λ c. search needs)  -- same-length-5
+    (λ c. let a = c .before .before .before .before .before .before .before .before .before .before .before .args in word-put _ _ _ _ (a .place) (conversion-at 4) (omega arith) (at-place (a .place) 4 (omega arith) (omega arith)) (c .before .before .put-run5 .ensures))  -- returns-5
+    (λ c. search needs)  -- slice-aggregate-put-run-6
+    (λ c κs. search needs)  -- put-run-requires-6
+    (λ c. search needs)  -- same-length-6
+    (λ c. let a = c .before .before .before .before .before .before .before .before .before .before .before .before .args in word-put _ _ _ _ (a .place) (conversion-at 5) (omega arith) (at-place (a .place) 5 (omega arith) (omega arith)) (c .before .before .put-run6 .ensures))  -- returns-6
+    (λ c. search needs)  -- slice-aggregate-put-run-7
+    (λ c κs. search needs)  -- put-run-requires-7
+    (λ c. search needs)  -- same-length-7
+    (λ c. let a = c .before .before .before .before .before .before .before .before .before .before .before .before .before .args in word-put _ _ _ _ (a .place) (conversion-at 6) (omega arith) (at-place (a .place) 6 (omega arith) (omega arith)) (c .before .before .put-run7 .ensures))  -- returns-7
+    (λ c. search needs)  -- slice-aggregate-put-run-8
+    (λ c κs. search needs)  -- put-run-requires-8
+    (λ c. search needs)  -- same-length-8
+    (λ c. let a = c .before .before .before .before .before .before .before .before .before .before .before .before .before .before .args in word-put _ _ _ _ (a .place) (conversion-at 7) (omega arith) (at-place (a .place) 7 (omega arith) (omega arith)) (c .before .before .put-run8 .ensures))  -- returns-8
+    (λ c. search needs)  -- slice-aggregate-put-run-9
+    (λ c κs. search needs)  -- put-run-requires-9
+    (λ c. search needs)  -- same-length-9
+    (λ c. let a = c .before .before .before .before .before .before .before .before .before .before .before .before .before .before .before .args in word-put _ _ _ _ (a .place) (conversion-at 8) (omega arith) (at-place (a .place) 8 (omega arith) (omega arith)) (c .before .before .put-run9 .ensures))  -- returns-9
+    (λ c. search needs)  -- slice-aggregate-put-run-10
+    (λ c κs. search needs)  -- put-run-requires-10
+    (λ c. search needs)  -- same-length-10
+    (λ c. let a = c .before .before .before .before .before .before .before .before .before .before .before .before .before .before .before .args in word-put _ _ _ _ (a .place) to-simplified (omega arith) (past-places (a .place) (omega arith)) (c .before .before .put-run10 .ensures)))  -- returns-10

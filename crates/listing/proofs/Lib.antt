@@ -1,0 +1,3 @@
+pub mod Pieces
+pub mod Loops
+pub mod Same

@@ -1,0 +1,32 @@
+// The clause listing: `clauses` with their number, each clause as `clause` with its number of literals, each literal as `pos` or `neg` and
+// its atom's rule text. All of it is measured first, so that out is unchanged where it is too short.
+mod parts;
+mod puts;
+mod sizes;
+
+use clauses::set::Set;
+use text::writer::Written;
+ghost use Rattle.listing.specs.Lists.{Lists};
+
+// Writes the listing of a clause set over the nodes of its matrix to the front of out; where out is too short for it, out is unchanged.
+// The set {P(x), ¬Q(y)} gives `clauses` 1, `clause` 2, `pos`, P(x), `neg`, Q(y).
+pub fn write_listing<'a>(
+    set: Set,
+    nodes: &[u64],
+    text: &'a [u8],
+    made: &'a [u8],
+    out: &mut [u8],
+) -> Written
+    ensures { λ r. ⌜ Lists (now (text .entry)) (now (made .entry)) (now (nodes .entry)) set (now (out .entry)) (now (out .exit)) r ⌝ }
+{
+    let atoms = set.atoms;
+    let store = set.literals;
+    let clauses = set.clauses;
+    let index = parts::front(&clauses, set.count);
+    let Written::Length(size) = sizes::listing(nodes, &atoms, &store, index, text, made, out.len())
+    else {
+        return Written::NoRoom;
+    };
+    puts::listing(out, nodes, &atoms, &store, index, text, made);
+    Written::Length(size)
+}
