@@ -88,10 +88,10 @@ def counted(conversion, rule, word, count):
 
 
 def tests():
-    yield 'document 01: the whole case', 'cnf', lambda: expect(*WHOLE_CASE)
+    yield 'document 01: the whole case', lambda: expect(*WHOLE_CASE)
     for name, conversion, rule, answer in PAIRS:
-        yield 'document 01: %s, %s' % (name, conversion), conversion, \
+        yield 'document 01: %s, %s' % (name, conversion), \
             lambda conversion=conversion, rule=rule, answer=answer: answered(conversion, rule, answer)
     for name, conversion, rule, word, count in COUNTED:
-        yield 'document 01: %s, %s, %d times %r' % (name, conversion, count, word.decode()), conversion, \
+        yield 'document 01: %s, %s, %d times %r' % (name, conversion, count, word.decode()), \
             lambda conversion=conversion, rule=rule, word=word, count=count: counted(conversion, rule, word, count)

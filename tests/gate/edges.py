@@ -175,6 +175,6 @@ def order():
 
 def tests():
     for conversion in model.CONVERSIONS:
-        yield 'edges, as document 01 states them, in the model: %s' % conversion, None, lambda conversion=conversion: stated(conversion)
-        yield '%d edges: %s' % (len(edges()), conversion), conversion, lambda conversion=conversion: expect(*edge_file(conversion))
-    yield 'order of names and of literals, by hand: cnf', 'cnf', order
+        yield 'edges, as document 01 states them, in the model: %s' % conversion, lambda conversion=conversion: stated(conversion)
+        yield '%d edges: %s' % (len(edges()), conversion), lambda conversion=conversion: expect(*edge_file(conversion))
+    yield 'order of names and of literals, by hand: cnf', order

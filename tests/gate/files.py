@@ -101,15 +101,15 @@ def every_cut(conversion):
 
 
 def tests():
-    yield 'empty input', None, lambda: expect(b'', FILE_REFUSED)
-    yield 'a lone LF', None, lambda: expect(b'\n', FILE_REFUSED)
+    yield 'empty input', lambda: expect(b'', FILE_REFUSED)
+    yield 'a lone LF', lambda: expect(b'\n', FILE_REFUSED)
     for conversion, answer in (('simplify', b'top\n'), ('nnf', b'top\n'), ('cnf', b'clauses\t0\n')):
         for name, make in ENORMOUS_INPUTS.items():
-            yield '10 MB: %s, %s' % (name, conversion), conversion, \
+            yield '10 MB: %s, %s' % (name, conversion), \
                 lambda conversion=conversion, make=make, answer=answer: enormous(conversion, make, answer)
-        yield '10 MB: last line, %s' % conversion, conversion, lambda conversion=conversion, answer=answer: enormous_end(conversion, answer)
+        yield '10 MB: last line, %s' % conversion, lambda conversion=conversion, answer=answer: enormous_end(conversion, answer)
     for conversion in harness.CONVERSIONS:
-        yield 'cut and ended everywhere: %s' % conversion, conversion, lambda conversion=conversion: every_cut(conversion)
-        yield 'in pieces of %s bytes, and random ones: %s' % (', '.join(map(str, PIECES)), conversion), conversion, \
+        yield 'cut and ended everywhere: %s' % conversion, lambda conversion=conversion: every_cut(conversion)
+        yield 'in pieces of %s bytes, and random ones: %s' % (', '.join(map(str, PIECES)), conversion), \
             lambda conversion=conversion: pieces(conversion)
-        yield 'damaged rules in random pieces: %s' % conversion, conversion, lambda conversion=conversion: damaged_pieces(conversion)
+        yield 'damaged rules in random pieces: %s' % conversion, lambda conversion=conversion: damaged_pieces(conversion)

@@ -6,9 +6,6 @@ import threading
 import harness
 import model
 
-# Conversions that the program does not have yet: it refuses a file that asks for one. Each is taken off this list when it comes.
-NOT_BUILT = ()
-
 PROGRAM = harness.TOP / 'target/bin/program'
 FILE_REFUSED = b'refused\t2\t0\n'
 # Against hanging, not a measure of speed.
@@ -72,12 +69,6 @@ def expect(given, expected, stack=None):
 
 def expect_model(given, stack=None):
     expect(given, model.output(given), stack)
-
-
-def asked_for(given):
-    """The conversion that a file's first line names, or None."""
-    fields = given.split(b'\n')[0].decode('latin-1').split('\t')
-    return fields[1] if len(fields) == 2 and fields[1] in harness.CONVERSIONS else None
 
 
 def file_of(conversion, rules):

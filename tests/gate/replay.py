@@ -1,6 +1,6 @@
 """The recorded answers of the Rust (tests/answers), rule by rule, byte for byte."""
 import harness
-from program import asked_for, expect
+from program import expect
 
 ANSWERS = harness.TOP / 'tests/answers'
 MANY = 10_000
@@ -28,9 +28,9 @@ def many(conversion):
 
 def tests():
     for conversion in harness.CONVERSIONS:
-        yield 'recorded answers: %s' % conversion, conversion, lambda conversion=conversion: replayed(conversion)
+        yield 'recorded answers: %s' % conversion, lambda conversion=conversion: replayed(conversion)
     for conversion in harness.CONVERSIONS:
-        yield '10,000 rules: %s' % conversion, conversion, lambda conversion=conversion: many(conversion)
+        yield '10,000 rules: %s' % conversion, lambda conversion=conversion: many(conversion)
     for path in sorted(ANSWERS.glob('files/*.in')):
         given, expected = path.read_bytes(), path.with_suffix('.out').read_bytes()
-        yield 'recorded file: %s' % path.stem, asked_for(given), lambda given=given, expected=expected: expect(given, expected)
+        yield 'recorded file: %s' % path.stem, lambda given=given, expected=expected: expect(given, expected)

@@ -1,7 +1,7 @@
 """The worst legal rules under a small stack; and how small it may be."""
 import harness
 import model
-from program import NOT_BUILT, Failed, expect, file_of
+from program import Failed, expect, file_of
 from trees import (balanced, both, either, every, fun, iff_chain, implied, long_prefix, negated, numbered, over_pairs, pred, repeated,
                    same_truth, some, text, to_the_left, to_the_right, under_nots, var)
 
@@ -57,7 +57,7 @@ def small_stack(conversion):
 
 def tests():
     for conversion in model.CONVERSIONS:
-        yield 'a stack of %d KiB, the %d worst rules: %s' % (STACK, len(worst_rules()), conversion), conversion, \
+        yield 'a stack of %d KiB, the %d worst rules: %s' % (STACK, len(worst_rules()), conversion), \
             lambda conversion=conversion: small_stack(conversion)
 
 
@@ -72,8 +72,6 @@ def is_enough(given, expected, stack):
 def least_stacks():
     """Prints the least stack, in KiB, under which a conversion answers its worst rules."""
     for conversion in model.CONVERSIONS:
-        if conversion in NOT_BUILT:
-            continue
         given, expected = worst_file(conversion)
         too_small, enough = 0, 65536
         while enough - too_small > 4:
