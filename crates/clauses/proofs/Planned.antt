@@ -14,9 +14,8 @@ use Rattle.definitions.specs.Clauses.{Raw, raw-of, added, multiplied, raw-const
 use Rattle.definitions.specs.Laws.Bools.{clash, and-true-left, and-true-right, by-cases}
 use Rattle.definitions.specs.Laws.Shapes.{is-atom, and-or, negated}
 use Rattle.definitions.specs.Prenex.{no-block}
-use Rattle.text.specs.Words.{Token, var-token, sign, token, tokens, kind-of, term-code, terms-code, op-kind, code}
+use Rattle.text.specs.Words.{Token, var-token, sign, token, tokens, kind-of, term-code, terms-code, op-kind, code, kind}
 use Rattle.clauses.specs.Plans.{Plan, none, empty, leaf, sum, product, counts, clamped, plan-word, form-of, size-of, clauses-of, literals-of, number-of, size, form, number, head, words}
-use Rattle.text.specs.Writer.{kind}
 use Rattle.clauses.specs.Laying.{constant-plan, both, plan, atomic, constant-word, form-for, joined-word, leaf-word, laid-before, laid}
 use Rattle.clauses.specs.Steps.{Laid}
 use Rattle.clauses.proofs.Carry.{mid, mid-cons, mid-none}

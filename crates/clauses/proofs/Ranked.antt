@@ -18,11 +18,10 @@ use Rattle.definitions.specs.Laws.Bools.{clash, by-cases, and-true-left, and-tr
 use Rattle.definitions.specs.Laws.Shapes.{is-atom, and-or, negated}
 use Rattle.definitions.specs.Laws.Order.{is-less, Less, swap, Orders, itself, atom-orders}
 use Rattle.definitions.specs.Laws.Sorted.{above, sorted, has, has-in, has-out, set-of-has, set-of-sorted}
-use Rattle.text.specs.Words.{Token, var-token, sign, token, tokens, term-code, terms-code, op-kind, code}
+use Rattle.text.specs.Words.{Token, var-token, sign, token, tokens, term-code, terms-code, op-kind, code, kind}
 use Rattle.text.specs.Weights.{term-words, terms-words, words-weight}
 use Rattle.clauses.specs.Each.{Each, none, more, At, first, later}
 use Rattle.clauses.specs.Plans.{Plan, none, empty, leaf, sum, product, joined, made, counts, size, form-of, number-of, head, words}
-use Rattle.text.specs.Writer.{kind}
 use Rattle.clauses.specs.Laying.{constant-plan, both, plan, leaf-word}
 use Rattle.clauses.specs.Ranks.{cmp-tokens, cmp-places, cmp-parts, part-word, start-of, part, lead, spots, seek, rank, renumbered, relabelled}
 use Rattle.clauses.specs.Sets.{Numbered, positive, negative, Spelled}

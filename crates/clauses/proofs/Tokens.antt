@@ -11,8 +11,7 @@ use borrow.Author.Tests.{eqb-true, eq-eqb, ne-eqb}
 use Rattle.definitions.specs.Bytes.{Bytes}
 use Rattle.definitions.specs.Order.{then, cmp-name}
 use Rattle.definitions.specs.Laws.Bools.{by-cases}
-use Rattle.text.specs.Words.{Token, token, tokens, spell, kind-of, count-of}
-use Rattle.text.specs.Writer.{kind, name}
+use Rattle.text.specs.Words.{Token, token, tokens, spell, kind-of, count-of, kind, name}
 use Rattle.clauses.specs.Ranks.{behind, class, cmp-token, due, cmp-tokens, ordering-of}
 use Rattle.clauses.proofs.Numbers.{compare-lt, compare-gt, compare-same}
 

@@ -20,7 +20,7 @@ use Rattle.definitions.specs.Laws.Order.{atom-orders}
 use Rattle.definitions.specs.Laws.Sorted.{set-of-sorted, set-of-has}
 use Rattle.definitions.specs.Laws.Counts.{distribute-length, distribute-total}
 use Rattle.definitions.specs.Laws.Shapes.{negated, ready}
-use Rattle.text.specs.Words.{Token, tokens, token, kind-of, code}
+use Rattle.text.specs.Words.{Token, tokens, token, kind-of, code, kind}
 use Rattle.text.specs.Weights.{words-weight}
 use Rattle.text.specs.Tables.{Holds}
 use Rattle.text.specs.declared.table.Table.{Table}
@@ -29,7 +29,6 @@ use Rattle.clauses.specs.declared.Fate.the-variants.{Given, TooMany}
 use Rattle.clauses.specs.declared.Answer.{Answer}
 use Rattle.clauses.specs.Each.{Each, none}
 use Rattle.clauses.specs.Plans.{Plan, made, counts, size, clauses-of, literals-of, head, words}
-use Rattle.text.specs.Writer.{kind}
 use Rattle.clauses.specs.Laying.{plan, laid}
 use Rattle.clauses.specs.Ranks.{cmp-parts, lead, spots, rank, relabelled}
 use Rattle.clauses.specs.Sets.{Numbered, Spelled, entries, sets-of, Denotes}

@@ -8,8 +8,7 @@ use lib.Dec.{eqb, leb, isEq}
 use lib.ListN.{take, drop}
 use Rattle.definitions.specs.Bytes.{Bytes}
 use Rattle.definitions.specs.Order.{then, cmp-name}
-use Rattle.text.specs.Words.{Token, var-token, sign, tokens}
-use Rattle.text.specs.Writer.{kind, name}
+use Rattle.text.specs.Words.{Token, var-token, sign, tokens, kind, name}
 use Rattle.clauses.specs.Laying.{atomic, leaf-word}
 use Rattle.clauses.specs.Plans.{form-of, number-of}
 

@@ -1,6 +1,10 @@
 // The distinct atoms of a matrix in their order, and the rank of each.
 use crate::plan;
 use crate::sets;
+use text::kinds::CON;
+use text::kinds::EQ;
+use text::kinds::PRED;
+use text::kinds::VAR;
 use text::names;
 use text::names::Order;
 use text::table::Table;
@@ -16,14 +20,6 @@ ghost use Rattle.definitions.specs.Order.{then, cmp-name, insert, set-of};
 ghost use Rattle.text.specs.Words.{spell, token, kind-of};
 ghost use Rattle.clauses.specs.Laying.{atomic};
 ghost use Rattle.clauses.specs.Ranks.{behind as behind-token, class as class-of, cmp-token, due as due-after, ordering-of, cmp-places, cmp-parts, part-word, start-of, spots, rank as rank-among};
-
-const EQ: u64 = 7;
-
-const PRED: u64 = 10;
-
-const VAR: u64 = 12;
-
-const CON: u64 = 13;
 
 // Which of two symbols' names comes first: 0 the first one, 1 neither, 2 the second one. The other orders here answer so too.
 fn name_order<'a>(text: &'a [u8], made: &'a [u8], s: u64, t: u64) -> u8

@@ -1,6 +1,13 @@
 // Plans: the raw clauses of a matrix, counted, and found one by one.
 use crate::atoms;
 use crate::sets;
+use text::kinds::AND;
+use text::kinds::BOT;
+use text::kinds::EQ;
+use text::kinds::NOT;
+use text::kinds::OR;
+use text::kinds::PRED;
+use text::kinds::TOP;
 use text::table::Table;
 ghost use Prim.Native.Nat.{ℕ, zero, suc, _+_, _*_, _<_, _≤_, compare};
 ghost use mathlib.Core.Path.{_≡_};
@@ -13,21 +20,6 @@ ghost use Rattle.clauses.specs.Plans.{Plan, made as made-of, clamped, pl
 ghost use Rattle.clauses.specs.Laying.{marked, atomic as atomic-kind, constant-word, form-for, sum-word, product-word, joined-word, leaf-word, laid-before, laid};
 ghost use Rattle.clauses.specs.Ranks.{rank as rank-among, relabelled};
 ghost use Rattle.clauses.specs.Steps.{Laid, Walked};
-
-// The kinds of words that a matrix in negation form has outside its terms.
-const TOP: u64 = 0;
-
-const BOT: u64 = 1;
-
-const NOT: u64 = 2;
-
-const AND: u64 = 3;
-
-const OR: u64 = 4;
-
-const EQ: u64 = 7;
-
-const PRED: u64 = 10;
 
 // The forms of a plan's words, but for constants.
 const LEAF: u64 = 1;

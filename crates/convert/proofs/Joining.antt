@@ -1,7 +1,7 @@
 -- Blocks and matrix in one table; the words of a rule that was read.
 use mathlib.Core.Path.{_≡_, refl, sym, ap, _∙_}
 use mathlib.Core.Bool.{Bool, true, false, not, _&&_}
-use mathlib.Core.List.{List, [], _∷_, _++_, append-assoc, append-nil}
+use mathlib.Core.List.{List, [], _∷_, _++_, append-assoc, map-append}
 use Prim.Native.Nat.{ℕ, zero, suc, _+_, _<_, _≤_}
 use native.Mathlib.Omega.{arith}
 use lib.ListN.{length, take, getD, set, length-append, length-set, length-map}
@@ -15,7 +15,7 @@ use Rattle.text.specs.Words.{Token, token, tokens, code, block-code, is-made}
 use Rattle.text.specs.Weights.{words-weight}
 use Rattle.text.specs.Tables.{Holds}
 use Rattle.text.specs.Prefixes.{prefix-code}
-use Rattle.text.specs.Lines.{inside, all-inside}
+use Rattle.reader.specs.Lines.{inside, all-inside}
 use Rattle.text.specs.declared.table.Table.{Table}
 use Rattle.substitution.specs.Runs.{Unmade}
 
@@ -36,10 +36,6 @@ one-more P N M used at i e a b h =
     ap (λ (n : ℕ). take n (set N at (getD M i 0))) f ∙ x ∙ ap (λ (l : List ℕ). l ++ (getD M i 0 ∷ [])) h ∙ append-assoc (take used P) (take i M) (getD M i 0 ∷ [])
     ∙ ap (λ (l : List ℕ). take used P ++ l) (sym y) ∙ ap (λ (n : ℕ). take used P ++ take n M) (sym g)
 
-tokens-append : (T M : Bytes) (a b : List ℕ) → tokens T M (a ++ b) ≡ tokens T M a ++ tokens T M b
-tokens-append T M [] b = refl
-tokens-append T M (w ∷ a) b = ap (λ (l : List Token). token T M w ∷ l) (tokens-append T M a b)
-
 words-of : (T M : Bytes) (l : List ℕ) (n : ℕ) (ts : List Token) → n ≤ length l → tokens T M (take n l) ≡ ts → length ts ≡ n
 words-of T M l n ts h e = sym (ap length e) ∙ length-map (take n l) (token T M) ∙ length-take-le n l h
 
@@ -56,7 +52,7 @@ pub joined-words : {T M : Bytes} (prefix matrix r : Table) (p : Prefix) {m : For
     → tokens T M (take (prefix .used) (prefix .nodes)) ≡ prefix-code p → Holds T M matrix m → Holds T M r (close p m)
 joined-words {T} {M} prefix matrix r p {m} u w e h = record {
   room = u;
-  words = ap (tokens T M) w ∙ tokens-append T M (take (prefix .used) (prefix .nodes)) (take (matrix .used) (matrix .nodes))
+  words = ap (tokens T M) w ∙ map-append (token T M) (take (prefix .used) (prefix .nodes)) (take (matrix .used) (matrix .nodes))
       ∙ ap (λ (l : List Token). l ++ tokens T M (take (matrix .used) (matrix .nodes))) e ∙ ap (λ (l : List Token). prefix-code p ++ l) (h .words) ∙ sym (close-code p m);
 }
 

@@ -20,15 +20,15 @@ use Rattle.definitions.specs.Laws.Within.{Within}
 use Rattle.definitions.specs.Laws.Reading.{read-iff}
 use Rattle.definitions.specs.Laws.Passing.{simplify-stage, nnf-stage}
 use Rattle.text.specs.declared.table.Table.{Table}
-use Rattle.text.specs.declared.writer.Written.{Written}
-use Rattle.text.specs.declared.reader.Outcome.{Outcome}
-use Rattle.text.specs.declared.reader.Verdict.{Verdict}
-use Rattle.text.specs.declared.reader.Verdict.the-variants.{Tree, Malformed, Large}
+use Rattle.writer.specs.declared.Written.{Written}
+use Rattle.reader.specs.declared.Outcome.{Outcome}
+use Rattle.reader.specs.declared.Verdict.{Verdict}
+use Rattle.reader.specs.declared.Verdict.the-variants.{Tree, Malformed, Large}
 use Rattle.text.specs.Words.{tokens}
 use Rattle.text.specs.Tables.{Holds}
-use Rattle.text.specs.Writer.{text-of, Writes, answer-of}
-use Rattle.text.specs.WriterLaws.{text-of-table}
-use Rattle.text.specs.Reader.{Says, Reads}
+use Rattle.writer.specs.Writer.{text-of, Writes, answer-of}
+use Rattle.writer.specs.WriterLaws.{text-of-table}
+use Rattle.reader.specs.Reader.{Says, Reads}
 use Rattle.negation.specs.declared.Staged.{Staged}
 use Rattle.negation.specs.declared.Stage.the-variants.{Made, Full}
 use Rattle.negation.specs.Stage.{made, full}

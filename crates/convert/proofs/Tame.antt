@@ -14,7 +14,7 @@ use Rattle.definitions.specs.Prenex.{Subst, shade, term-sub, terms-sub, sub, Pr
 use Rattle.definitions.specs.Skolem.{Counts, Skolemised, skolem-term, as-vars, put, arguments, skolem, skolemise, skolem-formula, first-number, counts-after}
 use Rattle.definitions.specs.Laws.Bools.{by-cases, and-both, and-true-left, and-true-right, clash}
 use Rattle.definitions.specs.Laws.Sets.{same-eq}
-use Rattle.definitions.specs.Laws.Kept.{term-each, terms-each, each, variables-each}
+use Rattle.definitions.specs.Laws.Kept.{term-each, terms-each, each, every-append, every-filter, variables-each}
 
 abbrev any : ℕ → Bool
 any n = true
@@ -29,18 +29,6 @@ module _ (p : Name → Bool) where
   unfolding every
   every-right [] b h = h
   every-right (x ∷ a) b h = every-right a b (and-true-right (p x) (every p (a ++ b)) h)
-
-  every-both : (a b : List Name) → every p a ≡ true → every p b ≡ true → every p (a ++ b) ≡ true
-  unfolding every
-  every-both [] b h k = k
-  every-both (x ∷ a) b h k = and-both (and-true-left (p x) (every p a) h) (every-both a b (and-true-right (p x) (every p a) h) k)
-
-  every-filter : (q : Name → Bool) (l : List Name) → every p l ≡ true → every p (filter q l) ≡ true
-  unfolding every filter
-  every-filter q [] h = refl
-  every-filter q (x ∷ l) h =
-      let r = every-filter q l (and-true-right (p x) (every p l) h) in
-      by-cases (q x) (λ t. rw t (and-both (and-true-left (p x) (every p l) h) r)) (λ f. rw f r)
 
   every-mem : (x : Name) (l : List Name) → mem x l ≡ true → every p l ≡ true → p x ≡ true
   unfolding every mem
@@ -180,12 +168,12 @@ module _ (p : Name → Bool) where
   skolem-keeps plain m scope k h e = h
   skolem-keeps (more all vs r) m scope k h e =
       let v = and-true-left (every p vs) (each p any (close r m)) h in
-      and-both v (skolem-keeps r m (without vs scope ++ vs) k (and-true-right (every p vs) (each p any (close r m)) h) (every-both (without vs scope) vs (every-filter (λ x. not (mem x vs)) scope e) v))
+      and-both v (skolem-keeps r m (without vs scope ++ vs) k (and-true-right (every p vs) (each p any (close r m)) h) (every-append p any (without vs scope) vs (every-filter p any (λ x. not (mem x vs)) scope e) v))
   skolem-keeps (more ex vs r) m scope k h e =
       let args = arguments vs r scope in
       let s = put vs (skolem-term args) (first-number args k) in
-      let w = every-filter (λ x. not (mem x vs)) scope e in
-      let good = put-keeping vs args (first-number args k) (every-filter _ (without vs scope) w) in
+      let w = every-filter p any (λ x. not (mem x vs)) scope e in
+      let good = put-keeping vs args (first-number args k) (every-filter p any _ (without vs scope) w) in
       skolem-keeps r (sub (shades r s) m) (without vs scope) _ (close-sub r m s good (and-true-right (every p vs) (each p any (close r m)) h)) w
 
   pub skolemise-tame : (q : Prenex) (k : Counts) → each p any (formula q) ≡ true → each p any (skolem-formula (skolemise q k)) ≡ true

@@ -7,8 +7,8 @@ ghost use Rattle.definitions.specs.Limits.{house, published};
 ghost use Rattle.definitions.specs.Convert.{to-simplified, to-nnf, to-pnf, to-snf, to-cnf, to-dnf, pnf-to-snf, snf-to-cnf, snf-to-dnf};
 ghost use Rattle.convert.specs.Answers.{named, Meets, Gives};
 use crate::stages::staged;
-use text::reader::Verdict;
-use text::reader::read;
+use reader::Verdict;
+use reader::read;
 
 mod stages;
 

@@ -20,6 +20,7 @@ pub mod Negation
 pub mod Fresh
 pub mod Prenex
 pub mod Outward
+pub mod Told
 pub mod Once
 pub mod Symbols
 pub mod Drawn

@@ -7,11 +7,11 @@ use native.Mathlib.Omega.{arith}
 use lib.ListN.{length, take, drop, getD, length-append, take-append-drop}
 use lib.Seq.{take-suc, take-all}
 use Rattle.definitions.specs.Bytes.{Bytes}
-use Rattle.text.specs.declared.writer.Written.{Written}
-use Rattle.text.specs.declared.writer.Written.the-variants.{Length, NoRoom}
-use Rattle.text.specs.Writer.{Measured, Wrote}
-use Rattle.text.specs.PutLaws.{wrote-none, wrote-both}
-use Rattle.text.proofs.WriterRuns.{too-long, short-enough, was-short, was-long}
+use Rattle.writer.specs.declared.Written.{Written}
+use Rattle.writer.specs.declared.Written.the-variants.{Length, NoRoom}
+use Rattle.writer.specs.Writer.{Measured, Wrote}
+use Rattle.writer.specs.PutLaws.{wrote-none, wrote-both}
+use Rattle.writer.specs.MeasureLaws.{too-long, short-enough, was-short, was-long}
 use Rattle.listing.specs.Texts.{each-text}
 use Rattle.listing.proofs.Pieces.{was-size}
 

@@ -11,12 +11,12 @@ use Rattle.definitions.specs.Bytes.{Bytes, TAB, LF, decimal}
 use Rattle.definitions.specs.Clauses.{counted-line}
 use Rattle.definitions.specs.Convert.{accepted}
 use Rattle.definitions.specs.Laws.Bools.{by-cases}
-use Rattle.text.specs.declared.writer.Written.{Written}
-use Rattle.text.specs.declared.writer.Written.the-variants.{Length, NoRoom}
+use Rattle.writer.specs.declared.Written.{Written}
+use Rattle.writer.specs.declared.Written.the-variants.{Length, NoRoom}
 use Rattle.text.specs.Words.{tokens}
-use Rattle.text.specs.Writer.{text-of, answer-of, Measured, Wrote}
-use Rattle.text.specs.PutLaws.{wrote-both}
-use Rattle.text.proofs.WriterRuns.{too-long, short-enough, was-short, was-long}
+use Rattle.writer.specs.Writer.{text-of, answer-of, Measured, Wrote}
+use Rattle.writer.specs.PutLaws.{wrote-both}
+use Rattle.writer.specs.MeasureLaws.{too-long, short-enough, was-short, was-long}
 use Rattle.listing.specs.Texts.{sign-line, atom-words, literal-text}
 
 -- the length that an answer gives is the text's

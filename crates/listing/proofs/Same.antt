@@ -12,11 +12,11 @@ use Rattle.definitions.specs.RuleText.{written}
 use Rattle.definitions.specs.Order.{Atom, Literal, pos, opp, Clause}
 use Rattle.definitions.specs.Clauses.{atom-formula, literal-word, literal-atom, literals-text, clause-word, counted-line, clauses-text, listing}
 use Rattle.text.specs.Words.{tokens}
-use Rattle.text.specs.declared.writer.Written.{Written}
-use Rattle.text.specs.declared.writer.Written.the-variants.{Length, NoRoom}
-use Rattle.text.specs.Writer.{text-of, Measured, Wrote}
-use Rattle.text.specs.WriterLaws.{text-of-code}
-use Rattle.text.proofs.WriterRuns.{not-written, all-written}
+use Rattle.writer.specs.declared.Written.{Written}
+use Rattle.writer.specs.declared.Written.the-variants.{Length, NoRoom}
+use Rattle.writer.specs.Writer.{text-of, Measured, Wrote}
+use Rattle.writer.specs.WriterLaws.{text-of-code}
+use Rattle.writer.specs.MeasureLaws.{not-written, all-written}
 use Rattle.clauses.specs.declared.set.Set.{Set}
 use Rattle.clauses.specs.Each.{Each, none, more, At, first, later}
 use Rattle.clauses.specs.Ranks.{part}

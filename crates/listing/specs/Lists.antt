@@ -5,9 +5,9 @@ use Prim.Native.Nat.{ℕ}
 use Rattle.definitions.specs.Bytes.{Bytes}
 use Rattle.definitions.specs.Order.{Clause}
 use Rattle.definitions.specs.Clauses.{listing}
-use Rattle.text.specs.declared.writer.Written.{Written}
-use Rattle.text.specs.declared.writer.Written.the-variants.{NoRoom}
-use Rattle.text.specs.Writer.{Writes}
+use Rattle.writer.specs.declared.Written.{Written}
+use Rattle.writer.specs.declared.Written.the-variants.{NoRoom}
+use Rattle.writer.specs.Writer.{Writes}
 use Rattle.clauses.specs.declared.set.Set.{Set}
 use Rattle.clauses.specs.Sets.{Denotes}
 

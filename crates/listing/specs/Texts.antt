@@ -8,7 +8,7 @@ use lib.ListN.{length, getD}
 use Rattle.definitions.specs.Bytes.{Bytes, LF}
 use Rattle.definitions.specs.Clauses.{clause-word, clauses-word, counted-line}
 use Rattle.text.specs.Words.{tokens}
-use Rattle.text.specs.Writer.{text-of}
+use Rattle.writer.specs.Writer.{text-of}
 use Rattle.clauses.specs.Ranks.{part}
 
 -- the texts of words one behind another

@@ -5,7 +5,7 @@ mod puts;
 mod sizes;
 
 use clauses::set::Set;
-use text::writer::Written;
+use writer::Written;
 ghost use Rattle.listing.specs.Lists.{Lists};
 
 // Writes the listing of a clause set over the nodes of its matrix to the front of out; where out is too short for it, out is unchanged.

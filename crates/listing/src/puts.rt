@@ -1,10 +1,9 @@
 // The listing, written piece by piece where there is room for it; each function gives the place behind what it wrote.
 use crate::parts;
-use text::writer;
 ghost use Prim.Native.Nat.{_+_, _≤_};
 ghost use lib.ListN.{length};
 ghost use Rattle.definitions.specs.Clauses.{counted-line};
-ghost use Rattle.text.specs.Writer.{Wrote};
+ghost use Rattle.writer.specs.Writer.{Wrote};
 ghost use Rattle.listing.specs.Texts.{sign-line, literal-text, clause-text, set-text};
 
 const TAB: u8 = 9;

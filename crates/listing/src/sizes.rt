@@ -1,9 +1,8 @@
 // How long the listing is, if that is at most a room: each function takes the room that is left.
 use crate::parts;
-use text::writer;
-use text::writer::Written;
+use writer::Written;
 ghost use Rattle.definitions.specs.Clauses.{counted-line};
-ghost use Rattle.text.specs.Writer.{Measured};
+ghost use Rattle.writer.specs.Writer.{Measured};
 ghost use Rattle.listing.specs.Texts.{literal-text, clause-text, set-text};
 
 // A line of a word and a number.

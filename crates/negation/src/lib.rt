@@ -2,6 +2,18 @@
 // stops at the first word without room, and every run above it returns at once: at most a table of words is written, also where an iff
 // chain's form is exponentially large, and between two of them lie no more calls than a few for each level of the rule.
 // The functions that call themselves borrow both tables; none has an array of its own.
+use text::kinds::ALL;
+use text::kinds::AND;
+use text::kinds::BOT;
+use text::kinds::EQ;
+use text::kinds::EX;
+use text::kinds::FUN;
+use text::kinds::IFF;
+use text::kinds::IMP;
+use text::kinds::NOT;
+use text::kinds::OR;
+use text::kinds::PRED;
+use text::kinds::TOP;
 use text::table::Table;
 ghost use Prim.Native.Nat.{ℕ, _+_, _≤_, _<_};
 ghost use mathlib.Core.Path.{_≡_};
@@ -15,31 +27,6 @@ ghost use Rattle.definitions.specs.Negation.{flip, nnf as nnf-of, push-not as p
 ghost use Rattle.text.specs.Words.{token, sign, block-kind, var-token, code, terms-code, count-of};
 ghost use Rattle.negation.specs.Runs.{Fit, Safe, Runs, behind, signed};
 ghost use Rattle.negation.specs.Stage.{Negated};
-
-// The kinds of words: the places of their keywords.
-const TOP: u64 = 0;
-
-const BOT: u64 = 1;
-
-const NOT: u64 = 2;
-
-const AND: u64 = 3;
-
-const OR: u64 = 4;
-
-const IMP: u64 = 5;
-
-const IFF: u64 = 6;
-
-const EQ: u64 = 7;
-
-const ALL: u64 = 8;
-
-const EX: u64 = 9;
-
-const PRED: u64 = 10;
-
-const FUN: u64 = 11;
 
 // How far a run came: the next word to read, how many words the table has, and whether it stopped for want of room. It also stops where
 // there is no formula.

@@ -7,6 +7,16 @@ use crate::write::Went;
 use crate::write::block;
 use crate::write::copy;
 use crate::write::put;
+use text::kinds::ALL;
+use text::kinds::AND;
+use text::kinds::BOT;
+use text::kinds::EQ;
+use text::kinds::EX;
+use text::kinds::IFF;
+use text::kinds::IMP;
+use text::kinds::NOT;
+use text::kinds::OR;
+use text::kinds::PRED;
 use text::table::Table;
 ghost use mathlib.Core.Path.{_≡_};
 ghost use Prim.Native.Nat.{ℕ, _≤_, _<_};
@@ -19,26 +29,6 @@ ghost use Rattle.text.specs.Words.{Token, kind-of, op-kind, code};
 ghost use Rattle.prenex.specs.Walk.{left-sign};
 ghost use Rattle.prenex.specs.Writing.{Plain, Reads, Extends, Appends, Safe};
 ghost use Rattle.prenex.specs.Outward.{Begins, Runs, RunsBoth, over, both-ways, Turned};
-
-const BOT: u64 = 1;
-
-const NOT: u64 = 2;
-
-const AND: u64 = 3;
-
-const OR: u64 = 4;
-
-const IMP: u64 = 5;
-
-const IFF: u64 = 6;
-
-const EQ: u64 = 7;
-
-const ALL: u64 = 8;
-
-const EX: u64 = 9;
-
-const PRED: u64 = 10;
 
 // The places of two formulae, in the order in which they are written.
 pub struct Way(pub usize, pub usize);

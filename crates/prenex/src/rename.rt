@@ -1,5 +1,6 @@
 // Renaming: at a binary node each block's variable that is free in the other side gets a new name. The tables' words change in place; the
 // made names are only read.
+use text::kinds::VAR;
 use text::names::spelled_same;
 use text::table::Table;
 ghost use mathlib.Core.Path.{_≡_};
@@ -16,8 +17,6 @@ ghost use Rattle.text.specs.Prefixes.{names};
 ghost use Rattle.prenex.specs.Walk.{put};
 ghost use Rattle.prenex.specs.Tables.{Slot, Known, AllKnown, Ready};
 ghost use Rattle.prenex.specs.Renaming.{splice, all-names, Named, Bounds, Spot, RenamesAt, Walks, apart-side, held, Halves, both-apart};
-
-const VAR: u64 = 12;
 
 // The longest name that a variable may have.
 const NAME: u64 = 24;

@@ -1,4 +1,12 @@
 // What a rule weighs once its blocks are out, known before any name is made. Each node is visited once.
+use text::kinds::BOT;
+use text::kinds::EQ;
+use text::kinds::EX;
+use text::kinds::FUN;
+use text::kinds::IFF;
+use text::kinds::IMP;
+use text::kinds::NOT;
+use text::kinds::PRED;
 use text::table::Table;
 ghost use mathlib.Core.Path.{_≡_};
 ghost use Prim.Native.Nat.{_+_, _-_, _≤_, _<_};
@@ -8,22 +16,6 @@ ghost use Rattle.definitions.specs.Limits.{house};
 ghost use Rattle.text.specs.Words.{token, count-of};
 ghost use Rattle.prenex.specs.Weights.{clamped, nowhere, Ends, Weighs};
 ghost use Rattle.prenex.specs.Streams.{behind};
-
-const BOT: u64 = 1;
-
-const NOT: u64 = 2;
-
-const IMP: u64 = 5;
-
-const IFF: u64 = 6;
-
-const EQ: u64 = 7;
-
-const EX: u64 = 9;
-
-const PRED: u64 = 10;
-
-const FUN: u64 = 11;
 
 // Past every place of a table: where there is no formula.
 const NOWHERE: usize = 2000;

@@ -1,4 +1,5 @@
 // Writing behind the two tables: words behind the matrix, blocks behind the prefix. Nothing is written past a table's end.
+use text::kinds::VAR;
 use text::names::clip;
 use text::table::Table;
 ghost use mathlib.Core.Path.{_≡_};
@@ -12,8 +13,6 @@ ghost use Rattle.definitions.specs.Limits.{house};
 ghost use Rattle.text.specs.Words.{Token, is-made, kind-of, token};
 ghost use Rattle.prenex.specs.Tables.{padded, slot-size, Places};
 ghost use Rattle.prenex.specs.Writing.{Plain, Reads, Extends, Appends, Lays, Blocks};
-
-const VAR: u64 = 12;
 
 // The bytes of a slot: the longest name, and the backtick that is one too many.
 const SLOT: usize = 25;

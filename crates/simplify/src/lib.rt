@@ -5,6 +5,16 @@ use substitution::Went;
 use substitution::arguments;
 use substitution::count;
 use substitution::free_among;
+use text::kinds::AND;
+use text::kinds::BOT;
+use text::kinds::EQ;
+use text::kinds::EX;
+use text::kinds::IFF;
+use text::kinds::IMP;
+use text::kinds::NOT;
+use text::kinds::OR;
+use text::kinds::PRED;
+use text::kinds::TOP;
 use text::table::Table;
 ghost use mathlib.Core.Path.{_≡_};
 ghost use mathlib.Core.List.{List, _++_, map};
@@ -19,27 +29,6 @@ ghost use Rattle.text.specs.Words.{var-token, code, terms-code, kind-of, count-
 ghost use Rattle.substitution.specs.Runs.{Within, Safe as Copies};
 ghost use Rattle.simplify.specs.Parts.{Moves, Becomes, settled, Ruled, Joins, Pastes, Binds, Copied, Reduces, Safe};
 ghost use Rattle.simplify.specs.Stage.{Simplified};
-
-// The kinds of words: the places of their keywords.
-const TOP: u64 = 0;
-
-const BOT: u64 = 1;
-
-const NOT: u64 = 2;
-
-const AND: u64 = 3;
-
-const OR: u64 = 4;
-
-const IMP: u64 = 5;
-
-const IFF: u64 = 6;
-
-const EQ: u64 = 7;
-
-const EX: u64 = 9;
-
-const PRED: u64 = 10;
 
 // What a constant makes of the part beside it: that part, its simplified negation, or a constant.
 pub enum Law {

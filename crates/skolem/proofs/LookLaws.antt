@@ -15,10 +15,9 @@ use Rattle.definitions.specs.Syntax.{Name, Formula}
 use Rattle.definitions.specs.Prenex.{parted}
 use Rattle.definitions.specs.Skolem.{has-hash, hash-free}
 use Rattle.definitions.specs.Laws.Bools.{by-cases, and-true-right}
-use Rattle.text.specs.Words.{Token, token, tokens, spell, kind-of, code}
+use Rattle.text.specs.Words.{Token, token, tokens, spell, kind-of, code, kind}
 use Rattle.text.specs.Prefixes.{prefix-code}
 use Rattle.text.specs.Tables.{Holds}
-use Rattle.text.specs.Writer.{kind}
 use Rattle.text.specs.declared.table.Table.{Table}
 use Rattle.skolem.specs.declared.shape.Shape.the-variants.{Skolem, Prenex, Other}
 use Rattle.skolem.specs.Shape.{any, between, blocks-size, hashed, Shaped, Parted}

@@ -11,9 +11,8 @@ use lib.ListN.{length, take, drop, length-map, length-append}
 use Rattle.definitions.specs.Syntax.{Name}
 use Rattle.definitions.specs.Names.{mem}
 use Rattle.definitions.specs.Laws.Bools.{by-cases}
-use Rattle.text.specs.Words.{Token}
+use Rattle.text.specs.Words.{Token, kind, count, name}
 use Rattle.text.specs.Prefixes.{names}
-use Rattle.text.specs.Writer.{kind, count, name}
 use Rattle.skolem.specs.Pass.{most, push, is-new, gather, survey, blank-token, stays, keep, pick, binds, is-var, whole, belongs, put-in, filled}
 use Rattle.skolem.proofs.Lists.{map-same-id, take-map, drop-map}
 

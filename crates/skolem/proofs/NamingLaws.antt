@@ -12,8 +12,8 @@ use Rattle.definitions.specs.Bytes.{Bytes, digits, decimal}
 use Rattle.definitions.specs.Syntax.{Name}
 use Rattle.definitions.specs.Laws.Bools.{by-cases}
 use Rattle.text.specs.Words.{spell, kind-of, count-of, size-of, start-of}
-use Rattle.text.specs.Writer.{Wrote, Puts}
-use Rattle.text.specs.PutLaws.{wrote-both}
+use Rattle.writer.specs.Writer.{Wrote, Puts}
+use Rattle.writer.specs.PutLaws.{wrote-both}
 use Rattle.skolem.specs.Counting.{last-number}
 use Rattle.skolem.specs.Naming.{longest, far, Grown, Names}
 

@@ -12,9 +12,8 @@ use Rattle.definitions.specs.Bytes.{Bytes}
 use Rattle.definitions.specs.Limits.{house}
 use Rattle.definitions.specs.Syntax.{Name}
 use Rattle.definitions.specs.Names.{mem}
-use Rattle.text.specs.Words.{Token, token, tokens, spell}
+use Rattle.text.specs.Words.{Token, token, tokens, spell, kind, count, name}
 use Rattle.text.specs.Prefixes.{names}
-use Rattle.text.specs.Writer.{kind, count, name}
 use Rattle.skolem.specs.Pass.{most, push, is-new, gather, Survey, after, survey, blank-word}
 use Rattle.skolem.specs.Steps.{Scope, Surveys}
 use Rattle.skolem.proofs.WordLaws.{variable, no-variable, kind-is, name-is, slice-one}

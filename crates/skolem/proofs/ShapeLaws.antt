@@ -11,9 +11,8 @@ use Rattle.definitions.specs.Truth.{every}
 use Rattle.definitions.specs.Prenex.{Prefix, plain, more, parted, no-block, all-only, is-prenex, is-skolem}
 use Rattle.definitions.specs.Skolem.{has-hash, hash-free}
 use Rattle.definitions.specs.Laws.Bools.{not-or}
-use Rattle.text.specs.Words.{Token, var-token, sign, op-kind, block-kind, term-code, terms-code, code}
+use Rattle.text.specs.Words.{Token, var-token, sign, op-kind, block-kind, term-code, terms-code, code, kind}
 use Rattle.text.specs.Prefixes.{prefix-code}
-use Rattle.text.specs.Writer.{kind}
 use Rattle.skolem.specs.declared.shape.Shape.the-variants.{Skolem, Prenex, Other}
 use Rattle.skolem.specs.Shape.{any, between, blocks-size, hashed, Shaped}
 

@@ -14,9 +14,8 @@ use Rattle.definitions.specs.Limits.{house}
 use Rattle.definitions.specs.Syntax.{Name}
 use Rattle.definitions.specs.Names.{mem}
 use Rattle.definitions.specs.Laws.Bools.{by-cases}
-use Rattle.text.specs.Words.{Token, var-token, sign, token, tokens, spell, kind-of, count-of}
+use Rattle.text.specs.Words.{Token, var-token, sign, token, tokens, spell, kind-of, count-of, kind, name}
 use Rattle.text.specs.Prefixes.{names}
-use Rattle.text.specs.Writer.{kind, name}
 use Rattle.skolem.specs.Pass.{most, push, binds}
 use Rattle.skolem.specs.Steps.{Scope}
 

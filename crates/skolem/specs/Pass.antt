@@ -10,9 +10,8 @@ use Rattle.definitions.specs.Bytes.{same}
 use Rattle.definitions.specs.Syntax.{Name}
 use Rattle.definitions.specs.Names.{mem}
 use Rattle.definitions.specs.Skolem.{Counts, constant-name, function-name}
-use Rattle.text.specs.Words.{Token, var-token, sign}
+use Rattle.text.specs.Words.{Token, var-token, sign, kind, count, name}
 use Rattle.text.specs.Prefixes.{names}
-use Rattle.text.specs.Writer.{kind, count, name}
 
 -- A scope of entries is kept up to one more than a function may have arguments: more of them are told apart from 32 alone.
 abbrev pub most : ℕ

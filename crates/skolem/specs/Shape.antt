@@ -11,10 +11,9 @@ use Rattle.definitions.specs.Limits.{house}
 use Rattle.definitions.specs.Syntax.{Formula}
 use Rattle.definitions.specs.Prenex.{parted, is-prenex, is-skolem}
 use Rattle.definitions.specs.Skolem.{has-hash}
-use Rattle.text.specs.Words.{Token, var-token, sign, tokens}
+use Rattle.text.specs.Words.{Token, var-token, sign, tokens, kind, count}
 use Rattle.text.specs.Tables.{Holds}
 use Rattle.text.specs.Prefixes.{prefix-code}
-use Rattle.text.specs.Writer.{kind, count}
 use Rattle.skolem.specs.declared.shape.Shape.{Shape}
 use Rattle.skolem.specs.declared.shape.Shape.the-variants.{Skolem, Prenex, Other}
 use Rattle.skolem.specs.declared.shape.Halves.{Halves}

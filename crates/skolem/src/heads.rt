@@ -1,7 +1,8 @@
 // The names of the heads: `c#k` or `f#k`, written behind the made names.
 use crate::counters::Counters;
+use text::kinds::CON;
+use text::kinds::FUN;
 use text::table::Table;
-use text::writer;
 ghost use mathlib.Core.Path.{_≡_};
 ghost use mathlib.Core.List.{[], _∷_};
 ghost use Prim.Native.Nat.{_≤_, _<_};
@@ -9,10 +10,6 @@ ghost use lib.ListN.{length};
 ghost use Rattle.definitions.specs.Bytes.{decimal};
 ghost use Rattle.definitions.specs.Limits.{house};
 ghost use Rattle.skolem.specs.Naming.{Names, Entitles, NamesAll};
-
-const FUN: u64 = 11;
-
-const CON: u64 = 13;
 
 const HASH: u8 = 35;
 

@@ -1,5 +1,8 @@
 // What the pass writes: the forall blocks, and the matrix with a term for each variable that an exists block binds.
 use crate::scope;
+use text::kinds::ALL;
+use text::kinds::FUN;
+use text::kinds::VAR;
 use text::table::Table;
 ghost use mathlib.Core.Path.{_≡_};
 ghost use mathlib.Core.Bool.{cond};
@@ -11,12 +14,6 @@ ghost use Rattle.definitions.specs.Limits.{house};
 ghost use Rattle.text.specs.Words.{spell, token};
 ghost use Rattle.skolem.specs.Pass.{binds, pick, whole, put-in, filled};
 ghost use Rattle.skolem.specs.Filling.{Fit, Adds, Keeps};
-
-const ALL: u64 = 8;
-
-const FUN: u64 = 11;
-
-const VAR: u64 = 12;
 
 // How many words a table has, and whether writing stopped: for want of room, or at a function of more than 32 arguments.
 pub struct Went {

@@ -1,4 +1,8 @@
 // The scope of the Skolem terms: the free variables, and the entries of forall blocks that no later block binds.
+use text::kinds::CON;
+use text::kinds::EX;
+use text::kinds::FUN;
+use text::kinds::VAR;
 use text::names;
 use text::table::Table;
 ghost use mathlib.Core.Path.{_≡_};
@@ -11,19 +15,10 @@ ghost use lib.Seq.{slice};
 ghost use Rattle.definitions.specs.Bytes.{Bytes};
 ghost use Rattle.definitions.specs.Limits.{house};
 ghost use Rattle.definitions.specs.Names.{mem};
-ghost use Rattle.text.specs.Words.{spell, token, tokens};
+ghost use Rattle.text.specs.Words.{spell, token, tokens, count};
 ghost use Rattle.text.specs.Prefixes.{names as names-of};
-ghost use Rattle.text.specs.Writer.{count};
 ghost use Rattle.skolem.specs.Pass.{binds as binds-name, most, push as pushed, gather, blank-word, survey as survey-of};
 ghost use Rattle.skolem.specs.Steps.{Scope, Surveys};
-
-const EX: u64 = 9;
-
-const FUN: u64 = 11;
-
-const VAR: u64 = 12;
-
-const CON: u64 = 13;
 
 // One more than a function may have arguments: so many entries of the scope are kept.
 const MOST: usize = Table::ARGUMENTS + 1;

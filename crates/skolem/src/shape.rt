@@ -1,5 +1,9 @@
 // What is asked of a rule's table before the stage, and its blocks and its matrix in tables of their own.
 use crate::matrix;
+use text::kinds::ALL;
+use text::kinds::CON;
+use text::kinds::EX;
+use text::kinds::FUN;
 use text::names;
 use text::table::Table;
 ghost use mathlib.Core.Path.{_≡_};
@@ -14,14 +18,6 @@ ghost use Rattle.definitions.specs.Skolem.{has-hash, hash-free};
 ghost use Rattle.text.specs.Words.{token, tokens, kind-of, code};
 ghost use Rattle.text.specs.Tables.{Holds};
 ghost use Rattle.skolem.specs.Shape.{any, between, blocks-size, hashed as hashed-token, Shaped, Parted};
-
-const ALL: u64 = 8;
-
-const EX: u64 = 9;
-
-const FUN: u64 = 11;
-
-const CON: u64 = 13;
 
 const HASH: u8 = 35;
 

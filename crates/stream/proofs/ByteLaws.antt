@@ -7,17 +7,18 @@ use native.Mathlib.Numerals.{add-one}
 use native.Mathlib.Omega.{arith}
 use borrow.Author.Tests.{ltb-true, lt-ltb, le-ltb, eq-eqb, ne-eqb}
 use lib.Dec.{eqb, ltb}
-use lib.ListN.{length, take, drop, getD, set}
+use lib.ListN.{length, take, drop, getD, set, List·getD-eq-default}
+use lib.Seq.{drop-cons}
 use Rattle.definitions.specs.Bytes.{Bytes, LF, TAB, same}
 use Rattle.definitions.specs.Limits.{house}
 use Rattle.definitions.specs.RuleText.{simple-name, is-name}
-use Rattle.definitions.specs.Convert.{Conversion}
+use Rattle.definitions.specs.Convert.{to-simplified}
 use Rattle.definitions.specs.Program.{do-word, conversion-word, conversions}
 use Rattle.definitions.specs.Laws.Bools.{by-cases, clash, same-truth, and-true-left}
 use Rattle.definitions.specs.Laws.Sets.{same-eq, same-refl}
 use Rattle.stream.specs.declared.machine.State.{State}
 use Rattle.stream.specs.declared.machine.Phase.{Phase}
-use Rattle.stream.specs.Machine.{at, step-in, number-of, matches, next-matched, grown, first-line, refused-file, second-line, in-label, in-text, chosen, first-step, second-step, label-step, text-step, step, rule-tab, longest-first, longest-label}
+use Rattle.stream.specs.Machine.{at, step-in, number-of, conversion-at, matches, next-matched, grown, first-line, refused-file, second-line, in-label, in-text, chosen, first-step, second-step, label-step, text-step, step, rule-tab, longest-first, longest-label}
 
 -- `rule` TAB
 pub few-matched : (k b : ℕ) (r : Bool) → r ≡ matches k b → r ≡ true → k < 5
@@ -95,19 +96,31 @@ same-snoc x y a =
     (λ t. rw (snoc-eq x y a (same-eq (x ++ (a ∷ [])) (y ++ (a ∷ [])) t)) (same-refl y))
     (λ t. rw (same-eq x y t) (same-refl (y ++ (a ∷ []))))
 
--- the first conversion of a list, and those behind it
-module _ (line : Bytes) (c : Conversion) (cs : List Conversion) (r : Bool) (e : r ≡ same line (do-word ++ (TAB ∷ conversion-word c))) where
-  pub named-here : r ≡ true → 0 ≡ number-of (c ∷ cs) (line ++ (LF ∷ []))
-  unfolding number-of
-  named-here t = rw (same-snoc line (do-word ++ (TAB ∷ conversion-word c)) LF, sym e ∙ t)
+-- the conversion at a place, and those behind it
+module _ (line : Bytes) (place : ℕ) (r : Bool) (h : place < length conversions) (e : r ≡ same line (do-word ++ (TAB ∷ conversion-word (conversion-at place)))) where
+  opens : drop place conversions ≡ conversion-at place ∷ drop (suc place) conversions
+  opens = drop-cons conversions place to-simplified h
 
-  pub named-behind : (n : ℕ) → r ≡ false → n ≡ number-of cs (line ++ (LF ∷ [])) → suc n ≡ number-of (c ∷ cs) (line ++ (LF ∷ []))
+  pub named-here : r ≡ true → number-of (drop place conversions) (line ++ (LF ∷ [])) ≡ 0
   unfolding number-of
-  named-behind n f p = rw (same-snoc line (do-word ++ (TAB ∷ conversion-word c)) LF, sym e ∙ f, p)
+  named-here t = rw (opens, same-snoc line (do-word ++ (TAB ∷ conversion-word (conversion-at place))) LF, sym e ∙ t)
 
-pub named-none : (line : Bytes) → 0 ≡ number-of [] (line ++ (LF ∷ []))
+  pub named-behind : r ≡ false → number-of (drop place conversions) (line ++ (LF ∷ [])) ≡ suc (number-of (drop (suc place) conversions) (line ++ (LF ∷ [])))
+  unfolding number-of
+  named-behind f = rw (opens, same-snoc line (do-word ++ (TAB ∷ conversion-word (conversion-at place))) LF, sym e ∙ f)
+
+pub named-none : (line : Bytes) → number-of [] line ≡ 0
 unfolding number-of
 named-none line = refl
+
+-- a line against the conversion at a place
+pub looked-at : (line : Bytes) (place k : ℕ) → place ≤ k → k ≤ place
+    → same line (do-word ++ (TAB ∷ conversion-word (conversion-at k))) ≡ same line (do-word ++ (TAB ∷ conversion-word (conversion-at place)))
+looked-at line place k h l = let e : place ≡ k = omega arith in rw e
+
+pub looked-past : (line : Bytes) (place : ℕ) → length conversions ≤ place
+    → same line (do-word ++ (TAB ∷ conversion-word to-simplified)) ≡ same line (do-word ++ (TAB ∷ conversion-word (conversion-at place)))
+looked-past line place h = rw (List·getD-eq-default conversions to-simplified h)
 
 -- the phase of a state says what a byte does
 pub phase-step : (s : State) (p : Phase) (kept : Bytes) (b : ℕ) → s .phase ≡ p → step (at s kept) b ≡ step-in p kept s b

@@ -14,9 +14,9 @@ use Rattle.definitions.specs.Limits.{house, lent, published}
 use Rattle.definitions.specs.Convert.{Conversion, to-simplified, to-nnf, to-pnf, to-snf, to-cnf, to-dnf, pnf-to-snf, snf-to-cnf, snf-to-dnf, Result, given, refused, Answer, accepted, not-given, fitted, laid, answer, out-after, work-after, convert}
 use Rattle.definitions.specs.Program.{conversion-word, done-word, field-line, question, refused-word, refusal, printed, conversions}
 use Rattle.definitions.specs.Laws.Bools.{by-cases}
-use Rattle.text.specs.Writer.{Wrote, Puts}
-use Rattle.text.specs.PutLaws.{wrote-none, wrote-both, wrote-is}
-use Rattle.text.proofs.WriterDigits.{decimal-one, length-more}
+use Rattle.writer.specs.Writer.{Wrote, Puts}
+use Rattle.writer.specs.PutLaws.{wrote-none, wrote-both, wrote-is}
+use Rattle.writer.specs.DigitLaws.{decimal-one, length-more}
 use Rattle.stream.specs.declared.machine.State.{State}
 use Rattle.stream.specs.declared.machine.Phase.{Phase}
 use Rattle.stream.specs.Machine.{at, rule-tab, Print, no-print, refusal-print, done-print, rule-print, conversion-at, result-bytes, name-kept, text-kept, longest-label, print-bytes, print-work, due-print, print-in, last-print, last-in, last-second}

@@ -10,7 +10,7 @@ use Rattle.definitions.specs.Bytes.{Bytes}
 use Rattle.definitions.specs.Convert.{accepted, not-given}
 use Rattle.convert.specs.declared.Answer.{Answer}
 use Rattle.convert.specs.Answers.{meaning}
-use Rattle.text.specs.Writer.{Wrote}
+use Rattle.writer.specs.Writer.{Wrote}
 use Rattle.stream.specs.declared.Pushed.{Pushed}
 use Rattle.stream.specs.Machine.{Machine, Print, print-bytes, print-work, run, at}
 

@@ -1,15 +1,14 @@
 // What the stream knows between two bytes, and what a byte makes of it. specs/Machine.antt is the same in words of the definitions.
 use text::names;
-use text::reader;
 ghost use mathlib.Core.Path.{_≡_};
 ghost use mathlib.Core.Bool.{Bool};
 ghost use mathlib.Core.List.{[], _∷_, _++_};
 ghost use lib.ListN.{length, take, drop, set};
-ghost use Rattle.definitions.specs.Bytes.{Bytes, LF as lf};
+ghost use Rattle.definitions.specs.Bytes.{Bytes, TAB as tab, LF as lf, same};
 ghost use Rattle.definitions.specs.Limits.{house};
 ghost use Rattle.definitions.specs.RuleText.{simple-name, is-name};
-ghost use Rattle.definitions.specs.Program.{conversions};
-ghost use Rattle.stream.specs.Machine.{at, number-of, matches as matches-of, next-matched, grown, first-line, refused-file, second-line, in-label, in-text, chosen, first-step, second-step, label-step, text-step, step as step-of};
+ghost use Rattle.definitions.specs.Program.{do-word, conversion-word, conversions};
+ghost use Rattle.stream.specs.Machine.{at, number-of, conversion-at, matches as matches-of, next-matched, grown, first-line, refused-file, second-line, in-label, in-text, chosen, first-step, second-step, label-step, text-step, step as step-of};
 
 const TAB: u8 = 9;
 
@@ -151,36 +150,50 @@ fn matched_behind(matched: usize, b: u8) -> usize
     RULE
 }
 
+// Whether a first line without its LF names the conversion at a place. No place past the nine comes up.
+fn names_conversion(line: &[u8], place: usize) -> bool
+    ensures { λ r. ⌜ r ≡ same (now (line .entry)) (do-word ++ (tab ∷ conversion-word (conversion-at place))) ⌝ }
+{
+    if place <= 0 {
+        return names::same_name(line, b"do\tsimplify");
+    }
+    if place <= 1 {
+        return names::same_name(line, b"do\tnnf");
+    }
+    if place <= 2 {
+        return names::same_name(line, b"do\tpnf");
+    }
+    if place <= 3 {
+        return names::same_name(line, b"do\tsnf");
+    }
+    if place <= 4 {
+        return names::same_name(line, b"do\tcnf");
+    }
+    if place <= 5 {
+        return names::same_name(line, b"do\tdnf");
+    }
+    if place <= 6 {
+        return names::same_name(line, b"do\tpnf-snf");
+    }
+    if place <= 7 {
+        return names::same_name(line, b"do\tsnf-cnf");
+    }
+    if place <= 8 {
+        return names::same_name(line, b"do\tsnf-dnf");
+    }
+    names::same_name(line, b"do\tsimplify")
+}
+
 // The place of the conversion that a first line without its LF names, past them all where it names none.
 fn conversion(line: &[u8]) -> usize
     ensures { λ r. ⌜ r ≡ number-of conversions (now (line .entry) ++ (lf ∷ [])) ⌝ }
 {
-    if names::same_name(line, b"do\tsimplify") {
-        return 0;
-    }
-    if names::same_name(line, b"do\tnnf") {
-        return 1;
-    }
-    if names::same_name(line, b"do\tpnf") {
-        return 2;
-    }
-    if names::same_name(line, b"do\tsnf") {
-        return 3;
-    }
-    if names::same_name(line, b"do\tcnf") {
-        return 4;
-    }
-    if names::same_name(line, b"do\tdnf") {
-        return 5;
-    }
-    if names::same_name(line, b"do\tpnf-snf") {
-        return 6;
-    }
-    if names::same_name(line, b"do\tsnf-cnf") {
-        return 7;
-    }
-    if names::same_name(line, b"do\tsnf-dnf") {
-        return 8;
+    let mut place = 0;
+    while place < CONVERSIONS {
+        if names_conversion(line, place) {
+            return place;
+        }
+        place += 1;
     }
     CONVERSIONS
 }

@@ -2,6 +2,14 @@
 // body added is sifted when the block ends. Names are told apart by their spellings, never by their symbols. Throughout, names[low..high]
 // are the names that are asked for. A block asks for its own only: to list all names again at each block around them took 200 ms where 57
 // blocks are nested.
+use text::kinds::BOT;
+use text::kinds::EQ;
+use text::kinds::EX;
+use text::kinds::FUN;
+use text::kinds::IFF;
+use text::kinds::NOT;
+use text::kinds::PRED;
+use text::kinds::VAR;
 use text::names::spelled_same;
 use text::table::Table;
 ghost use mathlib.Core.Path.{_≡_};
@@ -16,23 +24,6 @@ ghost use Rattle.definitions.specs.Names.{mem, free as free-of, terms-vars, uni
 ghost use Rattle.text.specs.Words.{token, var-token, code, terms-code, count-of, spell};
 ghost use Rattle.substitution.specs.Runs.{spells, Retains, Sifts, Notes, Within, Safe, Collects, Lists};
 ghost use Rattle.substitution.specs.Arguments.{behind};
-
-// The kinds of words that are told apart here: the places of their keywords.
-const BOT: u64 = 1;
-
-const NOT: u64 = 2;
-
-const IFF: u64 = 6;
-
-const EQ: u64 = 7;
-
-const EX: u64 = 9;
-
-const PRED: u64 = 10;
-
-const FUN: u64 = 11;
-
-const VAR: u64 = 12;
 
 // How far a run came: the next word to read, and how many words the list has.
 pub struct Went {

@@ -2,7 +2,7 @@
 -- `same_name` and `compare` keep that as they go on, and end where the bytes differ or where a name ends.
 use mathlib.Core.Path.{_≡_, refl, sym, ap, _∙_}
 use mathlib.Core.Logic.{_≢_}
-use mathlib.Core.Bool.{true, false, _&&_, and-false, true≢false}
+use mathlib.Core.Bool.{Bool, true, false, _&&_, and-false, and-true, and-assoc, true≢false}
 use mathlib.Core.List.{[], _∷_}
 use Prim.Native.Nat.{ℕ, suc, _+_, _≤_, _<_, compare, Ordering, Ordering·lt, Ordering·eq, Ordering·gt}
 use native.Mathlib.Numerals.{add-one}
@@ -13,6 +13,8 @@ use lib.Seq.{drop-cons}
 use borrow.Author.Tests.{eq-eqb, ne-eqb, le-leb, lt-leb}
 use Rattle.definitions.specs.Bytes.{same}
 use Rattle.definitions.specs.Syntax.{Name}
+use Rattle.definitions.specs.Laws.Bools.{by-cases}
+use Rattle.definitions.specs.Laws.Sets.{same-eq}
 use Rattle.definitions.specs.Order.{then, cmp-name, cmp-list}
 use Rattle.text.specs.declared.names.Order.{Order}
 use Rattle.text.specs.declared.names.Order.the-variants.{Less, Equal, Greater}
@@ -31,18 +33,28 @@ same-step : (a b : Name) (i : ℕ) → i < length a → i < length b
 unfolding same
 same-step a b i h k = rw (add-one, drop-cons a i 0 h, drop-cons b i 0 k)
 
-module _ (a b : Name) (i : ℕ) (begun : same a b ≡ same (drop i a) (drop i b)) (even : length a ≡ length b) where
-  pub same-stop : i < length a → getD a i 0 ≢ getD b i 0 → false ≡ same a b
-  same-stop h d = sym (begun ∙ same-step a b i h (omega arith) ∙ rw (ne-eqb (getD a i 0) (getD b i 0) d))
+-- where d says whether the bytes before i are the same
+module _ (a b : Name) (i : ℕ) (d : Bool) (begun : same a b ≡ (d && same (drop i a) (drop i b))) (even : length a ≡ length b) where
+  pub same-on : i < length a → (e : Bool) → e ≡ (d && eqb (getD a i 0) (getD b i 0)) → same a b ≡ (e && same (drop (i + 1) a) (drop (i + 1) b))
+  same-on h e k = begun ∙ rw (same-step a b i h (omega arith), k) (sym (and-assoc d (eqb (getD a i 0) (getD b i 0)) (same (drop (i + 1) a) (drop (i + 1) b))))
 
-  pub same-on : i < length a → getD a i 0 ≡ getD b i 0 → same a b ≡ same (drop (i + 1) a) (drop (i + 1) b)
-  same-on h d = begun ∙ same-step a b i h (omega arith) ∙ rw (eq-eqb (getD a i 0) (getD b i 0) d)
-
-  pub same-end : length a ≤ i → true ≡ same a b
+  pub same-end : length a ≤ i → d ≡ same a b
   unfolding same
   same-end h =
       let k : length b ≤ i = omega arith in
-      sym (begun ∙ rw (drop-of-length-le a h, drop-of-length-le b k))
+      sym (begun ∙ rw (drop-of-length-le a h, drop-of-length-le b k) (and-true d))
+
+pub same-differ : (a b : Name) (i : ℕ) → getD a i 0 ≢ getD b i 0 → false ≡ same a b
+same-differ a b i d = by-cases (same a b) (λ e. absurd (d (ap (λ (x : Name). getD x i 0) (same-eq a b e)))) (λ e. sym e)
+
+pub same-empty : (a b : Name) → length a ≡ 0 → length a ≡ length b → true ≡ same a b
+same-empty a b h k = same-end a b 0 true refl k (omega arith)
+
+pub still-differ : (d : Bool) (x y : ℕ) → x ≢ y → false ≡ (d && eqb x y)
+still-differ d x y h = sym (rw (ne-eqb x y h) (and-false d))
+
+pub still-one : (d : Bool) (x y : ℕ) → x ≡ y → d ≡ (d && eqb x y)
+still-one d x y h = sym (rw (eq-eqb x y h) (and-true d))
 
 -- Which comes first.
 is-less : (o : Ordering) → isLe o ≡ true → isEq o ≡ false → o ≡ Ordering·lt

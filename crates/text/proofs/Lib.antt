@@ -1,9 +1,1 @@
 pub mod Comparing
-pub mod ReaderFields
-pub mod ReaderLines
-pub mod ReaderPieces
-pub mod ReaderRuns
-pub mod ReaderSteps
-pub mod WriterDigits
-pub mod WriterTokens
-pub mod WriterRuns

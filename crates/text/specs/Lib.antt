@@ -4,11 +4,5 @@ pub mod Names
 pub mod Weights
 pub mod Prefixes
 pub mod PrefixLaws
-pub mod Lines
-pub mod Levels
-pub mod Reader
-pub mod Writer
-pub mod WriterLaws
-pub mod PutLaws
 pub mod Nodes
 pub mod NodeLaws

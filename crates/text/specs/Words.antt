@@ -11,7 +11,7 @@ use Prim.Native.Nat.{ℕ, _+_, _*_, _/_, _%_, _≤_}
 use lib.Dec.{eqb}
 use lib.ListN.{length, take, drop}
 use Rattle.definitions.specs.Bytes.{Bytes}
-use Rattle.definitions.specs.Syntax.{Name, Term, var, con, app, Terms, nil, cons, count, Op, and, or, imp, iff, Quant, all, ex, Formula, top, bot, pred, eq, neg, bin, blk}
+use Rattle.definitions.specs.Syntax.{Name, Term, var, con, app, Terms, nil, cons, count as arguments, Op, and, or, imp, iff, Quant, all, ex, Formula, top, bot, pred, eq, neg, bin, blk}
 
 abbrev pub word-of : ℕ → ℕ → ℕ → ℕ → ℕ → ℕ
 word-of kind count origin size start = kind + 16 * (count + 64 * (origin + 2 * (size + 64 * start)))
@@ -40,6 +40,19 @@ pub data Token : Type 0 where
   var-token : Name → Token
   sign : ℕ → ℕ → Name → Token
 
+-- a token's kind, count and name
+abbrev pub kind : Token → ℕ
+kind (var-token x) = 12
+kind (sign k n s) = k
+
+abbrev pub count : Token → ℕ
+count (var-token x) = 0
+count (sign k n s) = n
+
+abbrev pub name : Token → Name
+name (var-token x) = x
+name (sign k n s) = s
+
 abbrev pub token : Bytes → Bytes → ℕ → Token
 token T M w = cond (eqb (kind-of w) 12) (var-token (spell T M w)) (sign (kind-of w) (count-of w) (spell T M w))
 
@@ -51,7 +64,7 @@ unfoldable mutual
   pub term-code : Term → List Token
   term-code (var x) = var-token x ∷ []
   term-code (con c) = sign 13 0 c ∷ []
-  term-code (app f ts) = sign 11 (count ts) f ∷ terms-code ts
+  term-code (app f ts) = sign 11 (arguments ts) f ∷ terms-code ts
 
   pub terms-code : Terms → List Token
   terms-code nil = []
@@ -73,7 +86,7 @@ block-code q vs = sign (block-kind q) (length vs) [] ∷ map var-token vs
 unfoldable pub code : Formula → List Token
 code top = sign 0 0 [] ∷ []
 code bot = sign 1 0 [] ∷ []
-code (pred p ts) = sign 10 (count ts) p ∷ terms-code ts
+code (pred p ts) = sign 10 (arguments ts) p ∷ terms-code ts
 code (eq t u) = sign 7 0 [] ∷ (term-code t ++ term-code u)
 code (neg f) = sign 2 0 [] ∷ code f
 code (bin o f g) = sign (op-kind o) 0 [] ∷ (code f ++ code g)

@@ -1,6 +1,5 @@
-// Rule text and node tables: names and their order, symbols and their spellings, the table, the reader and the writer.
+// Names and their order, symbols and their spellings, and the node table.
+pub mod kinds;
 pub mod names;
 pub mod node;
-pub mod reader;
 pub mod table;
-pub mod writer;

@@ -1,5 +1,7 @@
 // Names: whether two are one, which comes first, and the spelling of a symbol.
 ghost use mathlib.Core.Path.{_≡_};
+ghost use mathlib.Core.Bool.{_&&_};
+ghost use lib.Dec.{eqb};
 ghost use lib.ListN.{take, drop};
 ghost use Rattle.definitions.specs.Bytes.{same};
 ghost use Rattle.text.specs.Words.{spell};
@@ -12,21 +14,38 @@ pub enum Order {
     Greater,
 }
 
-// Whether two names are one.
+// Whether no byte differed so far, nor do these two.
+fn still(before: bool, x: u8, y: u8) -> bool
+    ensures { λ r. ⌜ r ≡ (before && eqb x y) ⌝ }
+{
+    if x != y {
+        return false;
+    }
+    before
+}
+
+// Whether two names are one. Names that are alike mostly differ in their last byte. The loop has no way out before its end, so that
+// the compiler takes many bytes at once.
 pub fn same_name(a: &[u8], b: &[u8]) -> bool
     ensures { λ r. ⌜ r ≡ same (now (a .entry)) (now (b .entry)) ⌝ }
 {
     if a.len() != b.len() {
         return false;
     }
+    if a.len() == 0 {
+        return true;
+    }
+    let last = a.len() - 1;
+    if a[last] != b[last] {
+        return false;
+    }
+    let mut one = true;
     let mut i = 0;
     while i < a.len() {
-        if a[i] != b[i] {
-            return false;
-        }
+        one = still(one, a[i], b[i]);
         i += 1;
     }
-    true
+    one
 }
 
 // Which of two names comes first: by bytes, and a name that the other begins with before that one.
@@ -38,10 +57,10 @@ pub fn compare(a: &[u8], b: &[u8]) -> Order
         if i >= b.len() {
             return Order::Greater;
         }
-        if a[i] < b[i] {
-            return Order::Less;
-        }
-        if a[i] > b[i] {
+        if a[i] != b[i] {
+            if a[i] < b[i] {
+                return Order::Less;
+            }
             return Order::Greater;
         }
         i += 1;

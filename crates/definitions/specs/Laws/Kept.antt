@@ -36,12 +36,12 @@ module _ (p : Name → Bool) (w : ℕ → Bool) where
   each (bin o f g) = each f && each g
   each (blk q vs f) = every p vs && each f
 
-  every-append : (a b : List Name) → every p a ≡ true → every p b ≡ true → every p (a ++ b) ≡ true
+  pub every-append : (a b : List Name) → every p a ≡ true → every p b ≡ true → every p (a ++ b) ≡ true
   unfolding every
   every-append [] b h k = k
   every-append (x ∷ a) b h k = and-both (and-true-left (p x) (every p a) h) (every-append a b (and-true-right (p x) (every p a) h) k)
 
-  every-filter : (q : Name → Bool) (l : List Name) → every p l ≡ true → every p (filter q l) ≡ true
+  pub every-filter : (q : Name → Bool) (l : List Name) → every p l ≡ true → every p (filter q l) ≡ true
   unfolding every filter
   every-filter q [] h = refl
   every-filter q (x ∷ l) h =

@@ -1,6 +1,6 @@
 -- The listing is measured, and filled in where there is room for it.
 use borrow.Author.Needs.{needs}
-use Rattle.text.proofs.WriterRuns.{was-short}
+use Rattle.writer.specs.MeasureLaws.{was-short}
 use Rattle.listing.proofs.Same.{not-listed, all-listed}
 use Rattle.listing.proofs.write_listing.Statement.{statement}
 use Rattle.listing.proofs.write_listing.Tie as tie

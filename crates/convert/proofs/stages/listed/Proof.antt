@@ -2,7 +2,7 @@
 use borrow.Author.Needs.{needs}
 use native.Mathlib.Omega.{arith}
 use mathlib.Core.Path.{refl, sym, ap}
-use Rattle.text.specs.Writer.{answer-of}
+use Rattle.writer.specs.Writer.{answer-of}
 use Rattle.convert.proofs.Shown.{as-written, as-well, is-refused}
 use Rattle.convert.proofs.Passed.{too-many-clauses, set-given}
 use Rattle.convert.proofs.stages.listed.Statement.{statement}

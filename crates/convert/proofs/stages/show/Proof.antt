@@ -1,7 +1,7 @@
 -- The writer's answer, under the conversions' names.
 use borrow.Author.Needs.{needs}
 use mathlib.Core.Path.{ap}
-use Rattle.text.specs.Writer.{answer-of}
+use Rattle.writer.specs.Writer.{answer-of}
 use Rattle.convert.proofs.Shown.{shown}
 use Rattle.convert.proofs.stages.show.Statement.{statement}
 use Rattle.convert.proofs.stages.show.Tie as tie

@@ -2,7 +2,7 @@
 use borrow.Author.Needs.{needs}
 use native.Mathlib.Omega.{arith}
 use mathlib.Core.Path.{_∙_}
-use Rattle.text.specs.PutLaws.{wrote-both, puts-size}
+use Rattle.writer.specs.PutLaws.{wrote-both, puts-size}
 use Rattle.listing.proofs.Pieces.{line-length}
 use Rattle.listing.proofs.puts.line.Statement.{statement}
 use Rattle.listing.proofs.puts.line.Tie as tie

@@ -5,8 +5,8 @@ use mathlib.Core.Path.{_≡_, refl, _∙_}
 use Prim.Native.Nat.{_-_, _≤_}
 use lib.ListN.{length}
 use Rattle.definitions.specs.Clauses.{clauses-word, counted-line}
-use Rattle.text.specs.Writer.{Wrote}
-use Rattle.text.specs.PutLaws.{wrote-both}
+use Rattle.writer.specs.Writer.{Wrote}
+use Rattle.writer.specs.PutLaws.{wrote-both}
 use Rattle.listing.specs.Texts.{each-text, stored-text, set-text}
 use Rattle.listing.proofs.Loops.{so-far, head-room, rest-room, wrote-start, wrote-room, wrote-on, wrote-end}
 use Rattle.listing.proofs.puts.listing.Statement.{statement}

@@ -2,7 +2,7 @@
 use borrow.Author.Needs.{needs}
 use native.Mathlib.Omega.{arith}
 use mathlib.Core.Path.{refl, _∙_}
-use Rattle.text.specs.PutLaws.{puts-size}
+use Rattle.writer.specs.PutLaws.{puts-size}
 use Rattle.listing.specs.Texts.{atom-words}
 use Rattle.listing.proofs.Pieces.{sign-length, literal-length, literal-wrote}
 use Rattle.listing.proofs.puts.literal.Statement.{statement}

@@ -2,7 +2,7 @@
 use borrow.Author.Needs.{needs}
 use borrow.Author.Tests.{le-leb, lt-leb}
 use native.Mathlib.Omega.{arith}
-use Rattle.text.specs.PutLaws.{puts-size}
+use Rattle.writer.specs.PutLaws.{puts-size}
 use Rattle.listing.proofs.puts.sign.Statement.{statement}
 use Rattle.listing.proofs.puts.sign.Tie as tie
 

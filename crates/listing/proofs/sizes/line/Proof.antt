@@ -4,7 +4,7 @@ use native.Mathlib.Omega.{arith}
 use Prim.Native.Nat.{_+_}
 use lib.ListN.{length}
 use Rattle.definitions.specs.Clauses.{counted-line}
-use Rattle.text.proofs.WriterRuns.{too-long, short-enough}
+use Rattle.writer.specs.MeasureLaws.{too-long, short-enough}
 use Rattle.listing.proofs.Pieces.{line-length}
 use Rattle.listing.proofs.sizes.line.Statement.{statement}
 use Rattle.listing.proofs.sizes.line.Tie as tie

@@ -2,7 +2,7 @@
 use borrow.Author.Needs.{needs}
 use native.Mathlib.Omega.{arith}
 use mathlib.Core.Path.{refl}
-use Rattle.text.proofs.WriterRuns.{too-long, was-short}
+use Rattle.writer.specs.MeasureLaws.{too-long, was-short}
 use Rattle.listing.specs.Texts.{atom-words, literal-text}
 use Rattle.listing.proofs.Pieces.{was-size, literal-length, literal-fits, literal-long}
 use Rattle.listing.proofs.sizes.literal.Statement.{statement}

@@ -1,7 +1,7 @@
 -- A variable has no count, and any other word the one that it bears.
 use borrow.Author.Needs.{needs}
 use mathlib.Core.Path.{sym, ap}
-use Rattle.text.specs.Writer.{count}
+use Rattle.text.specs.Words.{count}
 use Rattle.skolem.proofs.WordLaws.{variable, no-variable}
 use Rattle.skolem.proofs.scope.block_size.Statement.{statement}
 use Rattle.skolem.proofs.scope.block_size.Tie as tie

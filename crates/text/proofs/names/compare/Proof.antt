@@ -24,13 +24,13 @@ compare-spec =
     (λ c. let l = c .before .before .loop in left-longer _ _ (l .i) (l .inv .1) (search needs) (search needs))  -- returns
     (λ c. search needs)  -- shared-slice-read-if2
     (λ c. search needs)  -- shared-slice-read-if2-2
-    (λ c. let l = c .before .before .before .before .before .loop in compare-less _ _ (l .i) (l .inv .1) (search needs) (search needs) (c .if2 .taken))  -- returns-2
     (λ c. search needs)  -- shared-slice-read-if3
     (λ c. search needs)  -- shared-slice-read-if3-2
-    (λ c. let l = c .before .before .before .before .before .before .before .before .loop in compare-greater _ _ (l .i) (l .inv .1) (search needs) (search needs) (c .if3 .taken))  -- returns-3
+    (λ c. let l = c .before .before .before .before .before .before .before .before .loop in compare-less _ _ (l .i) (l .inv .1) (search needs) (search needs) (c .if3 .taken))  -- returns-2
+    (λ c. let l = c .before .before .before .before .before .before .before .before .loop in
+    compare-greater _ _ (l .i) (l .inv .1) (search needs) (search needs) (omega (arith, c .if3 .left, c .before .before .before .if2 .taken)))  -- returns-3
     (λ c. search needs)  -- add-i
     (λ c. search needs)  -- loop-less
-    (λ c. let d = c .before .before .before in let l = d .before .before .before .before .before .loop in
-    (search needs, compare-on _ _ (l .i) (l .inv .1) (search needs) (search needs) (omega (arith, c .if3 .left, d .if2 .left))))  -- loop-again
+    (λ c. let l = c .before .before .before .before .before .loop in (search needs, compare-on _ _ (l .i) (l .inv .1) (search needs) (search needs) (search needs)))  -- loop-again
     (λ c. let l = c .before .before .loop in right-longer _ _ (l .i) (l .inv .1) (search needs) (search needs))  -- returns-4
     (λ c. let l = c .before .before .loop in both-end _ _ (l .i) (l .inv .1) (search needs) (search needs)))  -- returns-5

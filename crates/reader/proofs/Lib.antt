@@ -1,0 +1,5 @@
+pub mod Fields
+pub mod Lines
+pub mod Pieces
+pub mod Runs
+pub mod Steps
