@@ -41,6 +41,17 @@ fn started(conversion: Conversion, rules: Vec<Vec<u8>>) -> Vec<Vec<u8>> {
     rules.iter().map(|rule| convert(first, rule).expect("a rule that is timed has this form")).collect()
 }
 
+// Pairs that are multiplied out, and many atoms: one a clause each (`apart`), or all in one clause (`within`).
+fn clause_sets(multiplied: &'static str, within: &str, apart: &str) -> Vec<(&'static str, String)> {
+    vec![
+        (multiplied, pairs(within, apart, 8)),
+        ("256 atoms with short names", balanced(apart, &plain_atoms(256))),
+        ("256 atoms with long names", balanced(apart, &atoms(256))),
+        ("512 in a clause, short names", balanced(within, &plain_atoms(512))),
+        ("512 in a clause, long names", balanced(within, &atoms(512))),
+    ]
+}
+
 /// The rows of a conversion: the smallest rule, a small one, a site's file, and the worst rules that were found.
 pub fn rows(conversion: Conversion) -> Vec<Row> {
     let worst: Vec<(&'static str, String)> = match conversion {
@@ -64,24 +75,8 @@ pub fn rows(conversion: Conversion) -> Vec<Row> {
             ("58 nested blocks over 348 names", nested("ex", 58, 6)),
             ("15 nested blocks over 480 names", nested("ex", 15, 32)),
         ],
-        Conversion::Cnf | Conversion::SnfCnf => {
-            vec![
-                ("or over 8 pairs", pairs("or", "and", 8)),
-                ("256 atoms with short names", balanced("and", &plain_atoms(256))),
-                ("256 atoms with long names", balanced("and", &atoms(256))),
-                ("512 in a clause, short names", balanced("or", &plain_atoms(512))),
-                ("512 in a clause, long names", balanced("or", &atoms(512))),
-            ]
-        }
-        Conversion::Dnf | Conversion::SnfDnf => {
-            vec![
-                ("and over 8 pairs", pairs("and", "or", 8)),
-                ("256 atoms with short names", balanced("or", &plain_atoms(256))),
-                ("256 atoms with long names", balanced("or", &atoms(256))),
-                ("512 in a clause, short names", balanced("and", &plain_atoms(512))),
-                ("512 in a clause, long names", balanced("and", &atoms(512))),
-            ]
-        }
+        Conversion::Cnf | Conversion::SnfCnf => clause_sets("or over 8 pairs", "or", "and"),
+        Conversion::Dnf | Conversion::SnfDnf => clause_sets("and over 8 pairs", "and", "or"),
     };
     let mut rows = vec![("`top` alone", vec![lines("top")]), ("a small rule", vec![lines(SMALL)]), ("40 rules of a site", site())];
     rows.extend(worst.into_iter().map(|(what, rule)| (what, vec![lines(&rule)])));
