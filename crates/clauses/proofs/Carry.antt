@@ -1,6 +1,6 @@
 -- Insertion: the place is sought from the front, and what stands from there on is carried up by one.
 use mathlib.Core.Path.{_≡_, refl, sym, ap, _∙_}
-use mathlib.Core.List.{List, [], _∷_, _++_, append-assoc, map, map-id}
+use mathlib.Core.List.{List, [], _∷_, _++_, append-assoc, map}
 use Prim.Native.Nat.{ℕ, _+_, _<_, _≤_, Ordering, Ordering·lt, Ordering·eq, Ordering·gt}
 use native.Mathlib.Omega.{arith}
 use native.Mathlib.Numerals.{add-one}
@@ -76,8 +76,3 @@ module _ {A : Type 0} (cmp : A → A → Ordering) (g : ℕ → A) (x : A) (X : 
       let e : mid i n X ≡ [] = rw z (mid-none X n room) in
       let t : take (n + 1) Y ≡ take i X ++ (v ∷ []) = rw e at s in
       ap (map g) t ∙ map-append g (take i X) (v ∷ []) ∙ rw w (rw e at (k .comes-out))
-
--- the same for numbers that stand for themselves
-pub as-numbers : (cmp : ℕ → ℕ → Ordering) (r n x : ℕ) (X X₀ Y : List ℕ) → X ≡ X₀ → map (λ v. v) (take r Y) ≡ insert cmp x (map (λ v. v) (take n X))
-    → take r Y ≡ insert cmp x (take n X₀)
-as-numbers cmp r n x X X₀ Y s e = sym (map-id (take r Y)) ∙ e ∙ ap (insert cmp x) (map-id (take n X) ∙ ap (take n) s)

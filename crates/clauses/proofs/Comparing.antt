@@ -1,17 +1,14 @@
 -- Two clauses compared place by place.
-use mathlib.Core.Path.{_≡_, refl, sym, ap, _∙_}
-use mathlib.Core.Bool.{Bool, true, false}
+use mathlib.Core.Path.{_≡_, sym, ap, _∙_}
 use mathlib.Core.List.{List, [], _∷_}
 use Prim.Native.Nat.{ℕ, zero, suc, _+_, _-_, _/_, _%_, _<_, _≤_, min, compare, Ordering, Ordering·lt, Ordering·eq, Ordering·gt}
 use native.Mathlib.Omega.{arith}
 use native.Mathlib.Numerals.{add-one}
-use lib.Dec.{isEq}
-use lib.ListN.{length, take, drop, getD, length-take, length-drop, drop-of-length-le}
+use lib.ListN.{length, drop, getD, length-take, length-drop, drop-of-length-le}
 use lib.Seq.{drop-cons, getD-take, getD-drop}
 use Rattle.definitions.specs.Order.{cmp-list}
-use Rattle.clauses.specs.Ranks.{ordering-of, part, seek}
+use Rattle.clauses.specs.Ranks.{ordering-of, part}
 use Rattle.clauses.specs.Sets.{cmp-numbers}
-use Rattle.clauses.proofs.Carry.{mid, mid-cons, mid-none}
 use Rattle.clauses.proofs.Numbers.{compare-lt, compare-gt, compare-same}
 
 pub part-length : (D : List ℕ) (w : ℕ) → length D ≡ 2048 → length (part D w) ≡ min (w / 4096) (2048 - w % 4096)
@@ -64,28 +61,3 @@ pub answer-gt : (r : ℕ) (o : Ordering) → ordering-of r ≡ o → 1 < r → o
 answer-gt zero o e h = absurd (omega arith)
 answer-gt (suc zero) o e h = absurd (omega arith)
 answer-gt (suc (suc r)) o e h = sym e
-
-pub answer-other : (r : ℕ) (o : Ordering) → ordering-of r ≡ o → (r ≡ 1 → ⊥) → isEq o ≡ false
-answer-other zero o e h = ap isEq (sym e)
-answer-other (suc zero) o e h = absurd (h refl)
-answer-other (suc (suc r)) o e h = ap isEq (sym e)
-
--- the first that passes a test, sought place by place
-module _ (p : ℕ → Bool) (X : List ℕ) (n i : ℕ) (here : i < n) (room : n ≤ length X) (k : i + seek p (mid i n X) ≡ seek p (take n X)) where
-  pub seek-found : p (getD X i 0) ≡ true → i ≡ seek p (take n X)
-  unfolding seek
-  seek-found t =
-      let z : seek p (mid i n X) ≡ 0 = ap (seek p) (mid-cons X i n here room) ∙ rw t in
-      omega (arith, k, z)
-
-  pub seek-past : p (getD X i 0) ≡ false → (i + 1) + seek p (mid (i + 1) n X) ≡ seek p (take n X)
-  unfolding seek
-  seek-past t =
-      let z : seek p (mid i n X) ≡ suc (seek p (mid (i + 1) n X)) = ap (seek p) (mid-cons X i n here room) ∙ rw t in
-      omega (arith, k, z)
-
-pub seek-none : (p : ℕ → Bool) (X : List ℕ) (n i : ℕ) → i ≡ n → n ≤ length X → i + seek p (mid i n X) ≡ seek p (take n X) → n ≡ seek p (take n X)
-unfolding seek
-seek-none p X n i e room k =
-    let z : seek p (mid i n X) ≡ 0 = rw (e, mid-none X n room) in
-    omega (arith, k, z)

@@ -1,14 +1,17 @@
 pub mod Numbers
 pub mod Related
 pub mod Planned
+pub mod Laying
 pub mod Tokens
 pub mod Ordered
 pub mod Ranked
 pub mod Labelled
+pub mod Placed
 pub mod Carry
 pub mod Raw
 pub mod Walking
 pub mod Comparing
+pub mod Searching
 pub mod Collecting
 pub mod Growing
 pub mod Whole

@@ -3,11 +3,11 @@
 use mathlib.Core.Path.{_≡_, refl, sym, ap, ap₂, _∙_}
 use mathlib.Core.Bool.{Bool, true, false, _&&_, cond}
 use mathlib.Core.List.{List, [], _∷_, _++_, map, append-assoc, append-nil, List·Memᴰ, List·Memᴰ·head, List·Memᴰ·tail}
-use Prim.Native.Nat.{ℕ, zero, suc, _+_, _*_, _/_, _%_, _<_, _≤_, compare, Ordering, Ordering·lt, Ordering·eq, Ordering·gt, compare·zero-zero, compare·zero-suc, compare·suc-zero, compare·suc-suc}
+use Prim.Native.Nat.{ℕ, zero, suc, _+_, _*_, _/_, _%_, _<_, _≤_, compare, Ordering, Ordering·lt, Ordering·eq, compare·zero-zero, compare·zero-suc, compare·suc-zero, compare·suc-suc}
 use native.Mathlib.Omega.{arith}
 use lib.Dec.{isEq}
 use lib.ListN.{length, take, drop, length-append, take-append-drop}
-use lib.Seq.{drop-drop, take-at, drop-at}
+use lib.Seq.{take-at}
 use Rattle.definitions.specs.Bytes.{Bytes}
 use Rattle.definitions.specs.Syntax.{Term, var, con, app, Terms, nil, cons, term-weight, terms-weight, Op, and, or, imp, iff, Quant, all, ex, Formula, top, bot, pred, eq, neg, bin, blk, weight}
 use Rattle.definitions.specs.Truth.{every, any}
@@ -16,18 +16,22 @@ use Rattle.definitions.specs.Order.{Atom, rel, same-as, Literal, pos, opp, Clau
 use Rattle.definitions.specs.Clauses.{Raw, raw-of, raw-combine, raw-opposite, raw, constant, combine, opposite, distribute, atom-formula}
 use Rattle.definitions.specs.Laws.Bools.{clash, by-cases, and-true-left, and-true-right}
 use Rattle.definitions.specs.Laws.Shapes.{is-atom, and-or, negated}
-use Rattle.definitions.specs.Laws.Order.{is-less, Less, swap, Orders, itself, atom-orders}
+use Rattle.definitions.specs.Laws.Order.{is-less, swap, Orders, itself, atom-orders}
 use Rattle.definitions.specs.Laws.Sorted.{above, sorted, has, has-in, has-out, set-of-has, set-of-sorted}
 use Rattle.text.specs.Words.{Token, var-token, sign, token, tokens, term-code, terms-code, op-kind, code, kind}
+use Rattle.text.specs.WordLaws.{map-take}
+use Rattle.text.specs.Streams.{behind-part}
 use Rattle.text.specs.Weights.{term-words, terms-words, words-weight}
 use Rattle.clauses.specs.Each.{Each, none, more, At, first, later}
 use Rattle.clauses.specs.Plans.{Plan, none, empty, leaf, sum, product, joined, made, counts, size, form-of, number-of, head, words}
 use Rattle.clauses.specs.Laying.{constant-plan, both, plan, leaf-word}
 use Rattle.clauses.specs.Ranks.{cmp-tokens, cmp-places, cmp-parts, part-word, start-of, part, lead, spots, seek, rank, renumbered, relabelled}
+use Rattle.clauses.specs.Search.{at-place}
 use Rattle.clauses.specs.Sets.{Numbered, positive, negative, Spelled}
 use Rattle.clauses.proofs.Numbers.{compare-lt, compare-gt, compare-add}
 use Rattle.clauses.proofs.Related.{each-append, each-set, each-product}
 use Rattle.clauses.proofs.Ordered.{atom-order}
+use Rattle.clauses.proofs.Searching.{less-is}
 
 -- the atoms of a formula, from left to right
 unfoldable pub atoms : Formula → List Atom
@@ -81,17 +85,6 @@ lead-none (bin iff f g) rest = refl
 lead-none (blk all vs f) rest = refl
 lead-none (blk ex vs f) rest = refl
 
--- mapping goes through parts
-pub map-take : {A B : Type 0} (f : A → B) (n : ℕ) (l : List A) → map f (take n l) ≡ take n (map f l)
-map-take f zero l = refl
-map-take f (suc n) [] = refl
-map-take f (suc n) (x ∷ l) = ap (λ r. f x ∷ r) (map-take f n l)
-
-pub map-drop : {A B : Type 0} (f : A → B) (n : ℕ) (l : List A) → map f (drop n l) ≡ drop n (map f l)
-map-drop f zero l = refl
-map-drop f (suc n) [] = refl
-map-drop f (suc n) (x ∷ l) = map-drop f n l
-
 atom-negated : (f : Formula) → is-atom f ≡ true → negated f ≡ true
 unfolding negated
 atom-negated top h = refl
@@ -113,8 +106,7 @@ module _ (T M : Bytes) (S : List ℕ) where
   -- a table's tokens behind some that are known
   pub tokens-drop : (at n : ℕ) (x y : List Token) → tokens T M (drop at S) ≡ x ++ y → n ≡ at + length x → tokens T M (drop n S) ≡ y
   tokens-drop at n x y e l =
-      ap (λ (i : ℕ). tokens T M (drop i S)) l ∙ ap (tokens T M) (sym (drop-drop (length x) at S)) ∙ map-drop (token T M) (length x) (drop at S)
-      ∙ ap (drop (length x)) e ∙ drop-at x y (length x) refl
+      ap (λ (i : ℕ). tokens T M (drop i S)) l ∙ behind-part T M S at x e
 
   part-spelled : (at : ℕ) (a : Atom) (rest : List Token) (n : ℕ) → tokens T M (drop at S) ≡ code (atom-formula a) ++ rest → at < 1024 → n ≡ length (code (atom-formula a))
       → Spelled T M S (part-word at n) a
@@ -174,8 +166,12 @@ module _ (T M : Bytes) (S : List ℕ) where
       let D = tokens T M (drop (start-of w) S) in
       sym (take-append-drop (w / 4096) D) ∙ ap (λ (l : List Token). l ++ after-part w) (sym (map-take (token T M) (w / 4096) (drop (start-of w) S)) ∙ e)
 
+  pub place-agrees : (i w : ℕ) (a b : Atom) (x : List Token) → tokens T M (drop i S) ≡ code (atom-formula a) ++ x
+      → Spelled T M S w b → at-place T M S i w ≡ cmp-atom a b
+  place-agrees i w a b x e s = places-agree i (start-of w) a b x (after-part w) e (part-first w b s)
+
   pub parts-agree : (v w : ℕ) (a b : Atom) → Spelled T M S v a → Spelled T M S w b → cmp-parts T M S v w ≡ cmp-atom a b
-  parts-agree v w a b x y = places-agree (start-of v) (start-of w) a b (after-part v) (after-part w) (part-first v a x) (part-first w b y)
+  parts-agree v w a b x y = place-agrees (start-of v) w a b (after-part v) (part-first v a x) y
 
   -- the rank of an atom is its place among the sorted atoms
   pub ranked : {ws : List ℕ} {found : List Atom} (i : ℕ) (a : Atom) (x : List Token) → Each (Spelled T M S) ws found → tokens T M (drop i S) ≡ code (atom-formula a) ++ x
@@ -183,7 +179,7 @@ module _ (T M : Bytes) (S : List ℕ) where
   unfolding seek any
   ranked i a x none e h = clash h refl
   ranked i a x (more {x = w} {a = b} {l = ws} {m = found} s r) e h =
-      let agrees : cmp-places T M S i (start-of w) ≡ cmp-atom a b = places-agree i (start-of w) a b x (after-part w) e (part-first w b s) in
+      let agrees = place-agrees i w a b x e s in
       by-cases (isEq (cmp-atom a b))
       (λ t. rw (ap isEq agrees ∙ t) (rw (← atom-orders .equal a b t) first))
       (λ t. rw (ap isEq agrees ∙ t) (later (ranked i a x r e (rw t at h))))
@@ -192,11 +188,6 @@ module _ (T M : Bytes) (S : List ℕ) where
 at-below : {A : Type 0} {l : List A} {n : ℕ} {a : A} → At l n a → n < length l
 at-below first = omega arith
 at-below (later p) = omega (arith, at-below p)
-
-less-is : (o : Ordering) → Less o → o ≡ Ordering·lt
-less-is Ordering·lt h = refl
-less-is Ordering·eq h = clash h refl
-less-is Ordering·gt h = clash h refl
 
 above-at : {l : List Atom} {n : ℕ} {a : Atom} (x : Atom) → above cmp-atom x l ≡ true → At l n a → cmp-atom x a ≡ Ordering·lt
 unfolding every

@@ -1,27 +1,20 @@
--- The kind, the name and the number of terms behind a token, read off its word.
+-- How tokens compare, read off their words, and how many terms stand behind one.
 use mathlib.Core.Path.{_≡_, refl, sym, ap, ap₂, _∙_}
 use mathlib.Core.List.{List, [], _∷_, map}
 use Prim.Native.Nat.{ℕ, zero, suc, _+_, _-_, _<_, _≤_, compare, Ordering, Ordering·lt, Ordering·eq, Ordering·gt}
 use native.Mathlib.Omega.{arith}
 use native.Mathlib.Numerals.{add-one}
-use lib.Dec.{eqb}
 use lib.ListN.{length, drop, getD, drop-of-length-le}
 use lib.Seq.{drop-cons}
-use borrow.Author.Tests.{eqb-true, eq-eqb, ne-eqb}
+use borrow.Author.Tests.{ne-eqb}
 use Rattle.definitions.specs.Bytes.{Bytes}
 use Rattle.definitions.specs.Order.{then, cmp-name}
-use Rattle.definitions.specs.Laws.Bools.{by-cases}
-use Rattle.text.specs.Words.{Token, token, tokens, spell, kind-of, count-of, kind, name}
+use Rattle.text.specs.Words.{Token, token, tokens, spell, kind-of, count-of, kind}
+use Rattle.text.specs.WordLaws.{kind-is, name-is}
 use Rattle.clauses.specs.Ranks.{behind, class, cmp-token, due, cmp-tokens, ordering-of}
 use Rattle.clauses.proofs.Numbers.{compare-lt, compare-gt, compare-same}
 
 module _ (T M : Bytes) (w : ℕ) where
-  pub kind-is : kind (token T M w) ≡ kind-of w
-  kind-is = by-cases (eqb (kind-of w) 12) (λ e. rw e (sym (eqb-true (kind-of w) 12 e))) (λ e. rw e)
-
-  name-is : name (token T M w) ≡ spell T M w
-  name-is = by-cases (eqb (kind-of w) 12) (λ e. rw e) (λ e. rw e)
-
   pub behind-equation : kind-of w ≡ 7 → 2 ≡ behind (token T M w)
   behind-equation e = rw (e)
 

@@ -10,22 +10,26 @@ use lib.ListN.{length, take, drop, getD, length-append, length-drop, List·getD-
 use lib.Seq.{drop-cons, drop-drop, drop-at, length-take-le}
 use Rattle.definitions.specs.Order.{insert, set-of}
 use Rattle.definitions.specs.Laws.Order.{compare-orders}
-use Rattle.definitions.specs.Laws.Sorted.{set-of-last, set-of-length}
+use Rattle.definitions.specs.Laws.Sorted.{set-of-sorted, set-of-last, set-of-length}
 use Rattle.clauses.specs.Plans.{Plan, none, empty, leaf, sum, product, joined, made, counts, clamped, size, form, form-of, size-of, clauses-of, number-of, head, words}
+use Rattle.clauses.specs.Search.{Falls}
 use Rattle.clauses.specs.Steps.{Walked}
 use Rattle.clauses.proofs.Numbers.{either-way}
 use Rattle.clauses.proofs.Planned.{head-form, head-size, head-clauses, head-number, below, words-split, words-length}
+use Rattle.clauses.proofs.Searching.{numbers-fall}
 use Rattle.clauses.proofs.Raw.{nth, nth-right, nth-joined, made-length, joined-length}
 
 -- no literal, one, and those of one list behind those of another
 pub walked-none : (O : List ℕ) (u : ℕ) → Walked O u O u []
 walked-none O u = record { sorts = λ C h e. e ∙ ap (set-of compare) (sym (append-nil C)) }
 
-pub walked-one : (O O′ : List ℕ) (u r x : ℕ) → length O ≡ 1024 → u ≤ 1024 → (u < 1024 → take r O′ ≡ insert compare x (take u O)) → Walked O u O′ r (x ∷ [])
+pub walked-one : (O O′ : List ℕ) (u r x : ℕ) → length O ≡ 1024 → u ≤ 1024
+    → (u < 1024 → Falls (compare x) (take u O) → take r O′ ≡ insert compare x (take u O)) → Walked O u O′ r (x ∷ [])
 walked-one O O′ u r x len fit go = record {
   sorts = λ C h e.
       let l : u ≡ length (set-of compare C) = sym (length-take-le u O (omega arith)) ∙ ap length e in
-      go (omega (arith, set-of-length compare C)) ∙ ap (insert compare x) e ∙ sym (set-of-last compare-orders x C);
+      let f : Falls (compare x) (take u O) = rw e (numbers-fall x (set-of compare C) (set-of-sorted compare-orders C)) in
+      go (omega (arith, set-of-length compare C)) f ∙ ap (insert compare x) e ∙ sym (set-of-last compare-orders x C);
 }
 
 pub walked-both : {O O₁ O₂ : List ℕ} {u r₁ r₂ : ℕ} {c d : List ℕ} → Walked O u O₁ r₁ c → Walked O₁ r₁ O₂ r₂ d → Walked O u O₂ r₂ (c ++ d)

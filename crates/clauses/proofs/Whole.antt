@@ -13,7 +13,7 @@ use Rattle.definitions.specs.Syntax.{Quant, Formula, weight}
 use Rattle.definitions.specs.Limits.{house}
 use Rattle.definitions.specs.Prenex.{no-block}
 use Rattle.definitions.specs.Order.{Atom, Literal, Clause, cmp-atom, cmp-literal, cmp-clause, set-of}
-use Rattle.definitions.specs.Clauses.{distribute, clauses, raw}
+use Rattle.definitions.specs.Clauses.{distribute, clauses, raw, atom-formula}
 use Rattle.definitions.specs.Convert.{too-many}
 use Rattle.definitions.specs.Laws.Bools.{and-true-left, and-true-right, or-left, or-right}
 use Rattle.definitions.specs.Laws.Order.{atom-orders}
@@ -24,20 +24,22 @@ use Rattle.text.specs.Words.{Token, tokens, token, kind-of, code, kind}
 use Rattle.text.specs.Weights.{words-weight}
 use Rattle.text.specs.Tables.{Holds}
 use Rattle.text.specs.declared.table.Table.{Table}
-use Rattle.clauses.specs.declared.set.Set.{Set}
 use Rattle.clauses.specs.declared.Fate.the-variants.{Given, TooMany}
 use Rattle.clauses.specs.declared.Answer.{Answer}
-use Rattle.clauses.specs.Each.{Each, none}
+use Rattle.clauses.specs.Each.{Each, none, All}
 use Rattle.clauses.specs.Plans.{Plan, made, counts, size, clauses-of, literals-of, head, words}
 use Rattle.clauses.specs.Laying.{plan, laid}
 use Rattle.clauses.specs.Ranks.{cmp-parts, lead, spots, rank, relabelled}
+use Rattle.clauses.specs.Search.{Falls, at-place, Findable}
 use Rattle.clauses.specs.Sets.{Numbered, Spelled, entries, sets-of, Denotes}
 use Rattle.clauses.specs.Steps.{total}
 use Rattle.clauses.specs.Stage.{Outcome, given, refused}
 use Rattle.clauses.proofs.Tokens.{kinds-of}
 use Rattle.clauses.proofs.Related.{map-append, each-map, each-compare, each-length, each-set, each-total}
 use Rattle.clauses.proofs.Planned.{head-clauses, head-literals, below, words-split, words-length, plan-small, laid-plan}
-use Rattle.clauses.proofs.Ranked.{atoms, spots-each, parts-agree, ranked, numbers-agree}
+use Rattle.clauses.proofs.Ranked.{atoms, spots-each, place-agrees, parts-agree, ranked, numbers-agree}
+use Rattle.clauses.proofs.Searching.{sorted-falls}
+use Rattle.clauses.proofs.Placed.{plan-placed}
 use Rattle.clauses.proofs.Labelled.{label, words-label, plan-fits, made-numbered, plan-counts}
 
 module _ (T M : Bytes) (t : Table) (f : Formula) (len : length (t .nodes) ≡ 1024) (h : Holds T M t f) (r : ready f ≡ true) (q : Quant)
@@ -99,20 +101,22 @@ module _ (T M : Bytes) (t : Table) (f : Formula) (len : length (t .nodes) ≡ 10
       literals-counted : literals-of root ≡ min ((raw q f) .literals) 2049
       literals-counted = ap literals-of (root-read ∙ root-is) ∙ head-literals the-plan plan-size ∙ ap (λ c. min (c .literals) 2049) (plan-counts q 0 f is-negated)
 
-      pub over-clauses : {a : Answer} → a .fate ≡ TooMany → 256 < clauses-of root → Outcome T M (t .nodes) q f a
+      pub over-clauses : {A L X : List ℕ} {a : Answer} → a .fate ≡ TooMany → 256 < clauses-of root → Outcome T M (t .nodes) q f A L X a
       unfolding too-many
       over-clauses e l =
           refused e (or-left (ltb 256 ((raw q f) .clauses)) (ltb 2048 ((raw q f) .literals)) (lt-ltb 256 ((raw q f) .clauses) (omega (arith, clauses-counted))))
 
-      pub over-literals : {a : Answer} → a .fate ≡ TooMany → 2048 < literals-of root → Outcome T M (t .nodes) q f a
+      pub over-literals : {A L X : List ℕ} {a : Answer} → a .fate ≡ TooMany → 2048 < literals-of root → Outcome T M (t .nodes) q f A L X a
       unfolding too-many
       over-literals e l =
           refused e (or-right (ltb 256 ((raw q f) .clauses)) (ltb 2048 ((raw q f) .literals)) (lt-ltb 2048 ((raw q f) .literals) (omega (arith, literals-counted))))
 
       -- the atoms, and the plan with their ranks
       module _ (few : clauses-of root ≤ 256) (short : literals-of root ≤ 2048) (A : List ℕ) (n : ℕ) (A-len : length A ≡ 1024) (n-fits : n ≤ used)
-          (collected : take n A ≡ set-of (cmp-parts T M (t .nodes)) (spots 0 (map kind-of (take used (t .nodes)))))
-          (O′ : List ℕ) (labelled : drop p O′ ≡ map (relabelled (rank T M (t .nodes) (take n A))) (drop p O)) where
+          (collected : (m : List Atom) → Each (Spelled T M (t .nodes)) (spots 0 (map kind-of (take used (t .nodes)))) m
+          → take n A ≡ set-of (cmp-parts T M (t .nodes)) (spots 0 (map kind-of (take used (t .nodes)))))
+          (O′ : List ℕ) (labelled : All (Findable T M (t .nodes) (take n A)) (drop p O)
+          → drop p O′ ≡ map (relabelled (rank T M (t .nodes) (take n A))) (drop p O)) where
         abbrev found : List Atom
         found = set-of cmp-atom (atoms f)
 
@@ -128,7 +132,7 @@ module _ (T M : Bytes) (t : Table) (f : Formula) (len : length (t .nodes) ≡ 10
             rw (append-nil (atoms f)) at (spots-each T M (t .nodes) 0 (weight f) f [] behind-it [] is-negated has-no-block (omega arith) small from-start refl none)
 
         atoms-are : Each (Spelled T M (t .nodes)) (take n A) found
-        atoms-are = rw (collected, kinds-are) (each-set (parts-agree T M (t .nodes)) parts-are)
+        atoms-are = rw (collected (atoms f) (rw kinds-are parts-are), kinds-are) (each-set (parts-agree T M (t .nodes)) parts-are)
 
         number-of-atoms : length found ≤ 1024
         number-of-atoms = omega (arith, each-length atoms-are, length-take-le n A (omega arith))
@@ -138,9 +142,23 @@ module _ (T M : Bytes) (t : Table) (f : Formula) (len : length (t .nodes) ≡ 10
             made-numbered T M (t .nodes) ranks found (λ i a x e m. ranked T M (t .nodes) i a x atoms-are e m)
             q 0 (weight f) f behind-it is-negated has-no-block (omega arith) small from-start (λ a m. set-of-has atom-orders a (atoms f) ∙ m)
 
+        -- the atoms' table falls for the atom at each place
+        atoms-fall : (i : ℕ) (a : Atom) (x : List Token) → tokens T M (drop i (t .nodes)) ≡ code (atom-formula a) ++ x
+            → Falls (at-place T M (t .nodes) i) (take n A)
+        atoms-fall i a x e =
+            sorted-falls atom-orders (at-place T M (t .nodes) i) a (λ w b s. place-agrees T M (t .nodes) i w a b x e s)
+            (set-of-sorted atom-orders (atoms f)) atoms-are
+
+        all-findable : All (Findable T M (t .nodes) (take n A)) (drop p O)
+        all-findable =
+            rw plan-at
+            (plan-placed T M (t .nodes) (λ i. Falls (at-place T M (t .nodes) i) (take n A)) atoms-fall
+            q 0 (weight f) f behind-it is-negated (omega arith) small from-start)
+
         pub labelled-plan : drop p O′ ≡ words (label ranks the-plan) ++ []
         labelled-plan =
-            labelled ∙ ap (map (relabelled ranks)) plan-at ∙ sym (words-label ranks the-plan (plan-fits q 0 f (omega (arith, small))) plan-size)
+            labelled all-findable ∙ ap (map (relabelled ranks)) plan-at
+            ∙ sym (words-label ranks the-plan (plan-fits q 0 f (omega (arith, small))) plan-size)
             ∙ sym (append-nil (words (label ranks the-plan)))
 
         pub all-made : clauses-of root ≡ length (made (label ranks the-plan))
@@ -156,16 +174,16 @@ module _ (T M : Bytes) (t : Table) (f : Formula) (len : length (t .nodes) ≡ 10
             each-set (λ x y c d a b. each-compare agree a b)
             (each-map (set-of compare) (set-of cmp-literal) (λ x a s. each-set agree s) numbered)
 
-        pub set-given : {a : Answer} → a .fate ≡ Given → a .set .atoms ≡ A → a .set .distinct ≡ n
+        pub set-given : {L X : List ℕ} {a : Answer} → a .fate ≡ Given → a .set .distinct ≡ n
             → ((b : Plan) (rest : List ℕ) → drop p O′ ≡ words b ++ rest → clauses-of root ≡ length (made b) → total (made b) ≤ 2048
-            → entries (a .set .literals) (a .set .clauses) (a .set .count) ≡ sets-of (made b))
-            → Outcome T M (t .nodes) q f a
+            → entries L X (a .set .count) ≡ sets-of (made b))
+            → Outcome T M (t .nodes) q f A L X a
         unfolding too-many
-        set-given e x y gathered =
+        set-given e y gathered =
             given e within (record {
               atoms = found;
               few = number-of-atoms;
-              spelled = rw (x, y) atoms-are;
+              spelled = rw y atoms-are;
               listed = rw (gathered (label ranks the-plan) [] labelled-plan all-made all-fit) sorted-sets;
             })
           where

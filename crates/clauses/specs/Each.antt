@@ -1,4 +1,4 @@
--- Two lists whose elements belong together one by one, and the element at a place of a list.
+-- Two lists whose elements belong together one by one, the element at a place of a list, and what holds of all elements.
 use mathlib.Core.List.{List, [], _∷_}
 use Prim.Native.Nat.{ℕ, zero, suc}
 
@@ -9,3 +9,7 @@ pub data Each {A B : Type 0} (R : A → B → Type 0) : List A → List B → Ty
 pub data At {A : Type 0} : List A → ℕ → A → Type 0 where
   first : {a : A} {l : List A} → At (a ∷ l) zero a
   later : {a b : A} {l : List A} {n : ℕ} → At l n a → At (b ∷ l) (suc n) a
+
+unfoldable pub All : {A : Type 0} → (A → Type 0) → List A → Type 0
+All P [] = Unit {0}
+All P (x ∷ l) = P x × All P l

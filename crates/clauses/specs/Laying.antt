@@ -1,5 +1,5 @@
 -- How the words of a matrix are laid out as a plan, from the last word to the first: what stands behind a node is laid out before it.
--- Only the kind of a word counts; terms are passed over.
+-- Only the kind of a word counts; terms are passed over. What is laid out are the words of the matrix's plan (`laid-plan` in proofs/Planned.antt).
 use mathlib.Core.Bool.{Bool, true, false, _||_, cond}
 use mathlib.Core.List.{List, [], _∷_}
 use Prim.Native.Nat.{ℕ, suc, _+_, _*_}

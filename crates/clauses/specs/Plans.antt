@@ -1,5 +1,6 @@
 -- Plans. A plan says which raw clauses a matrix makes: no clause; one empty clause; one clause of one literal; those of two plans one after
 -- the other; or each clause of the first plan joined to each of the second. Literals are numbers, and what they stand for is said elsewhere.
+-- A matrix's plan makes the definitions' raw clauses, as many as `raw` counts (`made-numbered`, `plan-counts` in proofs/Labelled.antt).
 use mathlib.Core.List.{List, [], _∷_, _++_, map}
 use Prim.Native.Nat.{ℕ, suc, _+_, _*_, _/_, _%_, min}
 use Rattle.definitions.specs.Limits.{house}

@@ -32,10 +32,10 @@ cmp-numbers a b = cmp-list compare a b
 abbrev pub sets-of : List (List ℕ) → List (List ℕ)
 sets-of l = set-of cmp-numbers (map (set-of compare) l)
 
--- A set stands for the clauses cs, over the rule text T, the made names M and the node table S: its atoms are parts of S, in their order,
--- and each of its clauses is the list of its literals' numbers.
-pub record Denotes (T M : Bytes) (S : List ℕ) (s : Set) (cs : List Clause) : Type 0 where
+-- A set in the arrays A, L and X stands for the clauses cs, over the rule text T, the made names M and the node table S: its atoms are parts
+-- of S, in their order, and each of its clauses is the list of its literals' numbers.
+pub record Denotes (T M : Bytes) (S A L X : List ℕ) (s : Set) (cs : List Clause) : Type 0 where
   pub atoms : List Atom
   pub few : length atoms ≤ house .weight
-  pub spelled : Each (Spelled T M S) (take (s .distinct) (s .atoms)) atoms
-  pub listed : Each (Each (Numbered atoms)) (entries (s .literals) (s .clauses) (s .count)) cs
+  pub spelled : Each (Spelled T M S) (take (s .distinct) A) atoms
+  pub listed : Each (Each (Numbered atoms)) (entries L X (s .count)) cs

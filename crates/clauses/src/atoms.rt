@@ -1,6 +1,7 @@
 // The distinct atoms of a matrix in their order, and the rank of each.
 use crate::plan;
 use crate::sets;
+use crate::sets::Place;
 use text::kinds::CON;
 use text::kinds::EQ;
 use text::kinds::PRED;
@@ -10,16 +11,19 @@ use text::names::Order;
 use text::table::Table;
 ghost use Prim.Native.Nat.{ℕ, _+_, _-_, _<_, _≤_, compare};
 ghost use mathlib.Core.Path.{_≡_};
-ghost use mathlib.Core.Bool.{cond};
+ghost use mathlib.Core.Bool.{true, cond};
 ghost use mathlib.Core.List.{List, map};
 ghost use lib.Dec.{leb};
 ghost use lib.ListN.{length, take, drop, getD};
 ghost use Rattle.definitions.specs.Bytes.{Bytes};
 ghost use Rattle.definitions.specs.Limits.{house};
-ghost use Rattle.definitions.specs.Order.{then, cmp-name, insert, set-of};
+ghost use Rattle.definitions.specs.Order.{Atom, then, cmp-name, insert, set-of};
 ghost use Rattle.text.specs.Words.{spell, token, kind-of};
 ghost use Rattle.clauses.specs.Laying.{atomic};
-ghost use Rattle.clauses.specs.Ranks.{behind as behind-token, class as class-of, cmp-token, due as due-after, ordering-of, cmp-places, cmp-parts, part-word, start-of, spots, rank as rank-among};
+ghost use Rattle.clauses.specs.Ranks.{behind as behind-token, class as class-of, cmp-token, due as due-after, ordering-of, cmp-places, cmp-parts, part-word, spots, rank as rank-among};
+ghost use Rattle.clauses.specs.Search.{Falls, Finds, at-place};
+ghost use Rattle.clauses.specs.Each.{Each};
+ghost use Rattle.clauses.specs.Sets.{Spelled};
 
 // Which of two symbols' names comes first: 0 the first one, 1 neither, 2 the second one. The other orders here answer so too.
 fn name_order<'a>(text: &'a [u8], made: &'a [u8], s: u64, t: u64) -> u8
@@ -143,6 +147,43 @@ fn order<'a>(text: &'a [u8], made: &'a [u8], nodes: &[u64; Table::WEIGHT], a: us
     same
 }
 
+// Where the atom at `at` stands among the first n of the sorted table, or is to be put. Each look leaves out the half that cannot have it.
+fn find<'a>(
+    text: &'a [u8],
+    made: &'a [u8],
+    nodes: &[u64; Table::WEIGHT],
+    atoms: &[u64; Table::WEIGHT],
+    n: usize,
+    at: usize,
+) -> Place
+    requires { ⌜ (length (now nodes) ≡ house .weight) × (length (now atoms) ≡ house .weight) × (n ≤ house .weight) ⌝ }
+    ensures safe { λ r. ⌜ r .at ≤ n ⌝ }
+    ensures does { λ r. ⌜ (Falls (at-place (now (text .entry)) (now (made .entry)) (now (nodes .entry)) at) (take n (now (atoms .entry)))
+        → Finds (at-place (now (text .entry)) (now (made .entry)) (now (nodes .entry)) at) (take n (now (atoms .entry))) (r .at) (r .found)) ⌝ }
+{
+    let mut low: usize = 0;
+    let mut high = n;
+    while low < high {
+        let mid = (low + high) / 2;
+        let o = order(text, made, nodes, at, (atoms[mid] % 4096) as usize);
+        if o == 1 {
+            return Place {
+                at: mid,
+                found: true,
+            };
+        }
+        if o < 1 {
+            high = mid;
+        } else {
+            low = mid + 1;
+        }
+    }
+    Place {
+        at: low,
+        found: false,
+    }
+}
+
 // Puts the atom of a part into the sorted table of the first n; gives the new number of them.
 fn add_atom<'a>(
     text: &'a [u8],
@@ -153,22 +194,16 @@ fn add_atom<'a>(
     n: usize,
 ) -> usize
     requires { ⌜ (length (now nodes) ≡ house .weight) × (length (now atoms) ≡ house .weight) × (n < house .weight) ⌝ }
-    ensures { λ r. ⌜ (length (now (atoms .exit)) ≡ house .weight) × (r ≤ n + 1) × (take r (now (atoms .exit)) ≡ insert (cmp-parts (now (text .entry)) (now (made .entry)) (now (nodes .entry))) part (take n (now (atoms .entry)))) ⌝ }
+    ensures safe { λ r. ⌜ (length (now (atoms .exit)) ≡ house .weight) × (r ≤ n + 1) ⌝ }
+    ensures does { λ r. ⌜ (Falls (cmp-parts (now (text .entry)) (now (made .entry)) (now (nodes .entry)) part) (take n (now (atoms .entry)))
+        → take r (now (atoms .exit))
+        ≡ insert (cmp-parts (now (text .entry)) (now (made .entry)) (now (nodes .entry))) part (take n (now (atoms .entry)))) ⌝ }
 {
-    let place = (part % 4096) as usize;
-    let mut i: usize = 0;
-    while i < n {
-        let o = order(text, made, nodes, place, (atoms[i] % 4096) as usize);
-        if o == 1 {
-            return n;
-        }
-        if o < 1 {
-            sets::shift(atoms, i, n, part);
-            return n + 1;
-        }
-        i += 1;
+    let place = find(text, made, nodes, atoms, n, (part % 4096) as usize);
+    if place.found {
+        return n;
     }
-    sets::shift(atoms, i, n, part);
+    sets::shift(atoms, place.at, n, part);
     n + 1
 }
 
@@ -183,8 +218,13 @@ fn add_if_atom<'a>(
     n: usize,
 ) -> usize
     requires { ⌜ (length (now nodes) ≡ house .weight) × (length (now atoms) ≡ house .weight) × (n < house .weight) × (at < end) × (end ≤ house .weight) ⌝ }
-    ensures { λ r. ⌜ (length (now (atoms .exit)) ≡ house .weight) × (r ≤ n + 1) × (take r (now (atoms .exit))
-        ≡ cond (atomic (kind-of (getD (now (nodes .entry)) at 0))) (insert (cmp-parts (now (text .entry)) (now (made .entry)) (now (nodes .entry))) (part-word at (end - at)) (take n (now (atoms .entry)))) (take n (now (atoms .entry)))) ⌝ }
+    ensures safe { λ r. ⌜ (length (now (atoms .exit)) ≡ house .weight) × (r ≤ n + 1) ⌝ }
+    ensures does { λ r. ⌜ ((atomic (kind-of (getD (now (nodes .entry)) at 0)) ≡ true
+        → Falls (cmp-parts (now (text .entry)) (now (made .entry)) (now (nodes .entry)) (part-word at (end - at))) (take n (now (atoms .entry))))
+        → take r (now (atoms .exit))
+        ≡ cond (atomic (kind-of (getD (now (nodes .entry)) at 0)))
+        (insert (cmp-parts (now (text .entry)) (now (made .entry)) (now (nodes .entry))) (part-word at (end - at)) (take n (now (atoms .entry))))
+        (take n (now (atoms .entry)))) ⌝ }
 {
     if plan::atomic(nodes[at] % 16) {
         return add_atom(
@@ -219,7 +259,11 @@ pub fn collect<'a>(
     atoms: &mut [u64; Table::WEIGHT],
 ) -> usize
     requires { ⌜ (length (now nodes) ≡ house .weight) × (length (now atoms) ≡ house .weight) × (used ≤ house .weight) ⌝ }
-    ensures { λ r. ⌜ (length (now (atoms .exit)) ≡ house .weight) × (r ≤ used) × (take r (now (atoms .exit)) ≡ set-of (cmp-parts (now (text .entry)) (now (made .entry)) (now (nodes .entry))) (spots 0 (map kind-of (take used (now (nodes .entry)))))) ⌝ }
+    ensures safe { λ r. ⌜ (length (now (atoms .exit)) ≡ house .weight) × (r ≤ used) ⌝ }
+    ensures does { λ r. ⌜ ((found : List Atom)
+        → Each (Spelled (now (text .entry)) (now (made .entry)) (now (nodes .entry))) (spots 0 (map kind-of (take used (now (nodes .entry))))) found
+        → take r (now (atoms .exit))
+        ≡ set-of (cmp-parts (now (text .entry)) (now (made .entry)) (now (nodes .entry))) (spots 0 (map kind-of (take used (now (nodes .entry)))))) ⌝ }
 {
     let mut n: usize = 0;
     let mut end = used;
@@ -232,7 +276,7 @@ pub fn collect<'a>(
     n
 }
 
-// The rank of the atom at a place: where it stands in the table. The number of atoms, if it is none of them.
+// The rank of the atom at a place: where it stands in the sorted table. The number of atoms, if it is none of them.
 pub fn rank<'a>(
     text: &'a [u8],
     made: &'a [u8],
@@ -242,14 +286,13 @@ pub fn rank<'a>(
     at: usize,
 ) -> usize
     requires { ⌜ (length (now nodes) ≡ house .weight) × (length (now atoms) ≡ house .weight) × (distinct ≤ house .weight) ⌝ }
-    ensures { λ r. ⌜ (r ≤ distinct) × (r ≡ rank-among (now (text .entry)) (now (made .entry)) (now (nodes .entry)) (take distinct (now (atoms .entry))) at) ⌝ }
+    ensures safe { λ r. ⌜ r ≤ distinct ⌝ }
+    ensures does { λ r. ⌜ (Falls (at-place (now (text .entry)) (now (made .entry)) (now (nodes .entry)) at) (take distinct (now (atoms .entry)))
+        → r ≡ rank-among (now (text .entry)) (now (made .entry)) (now (nodes .entry)) (take distinct (now (atoms .entry))) at) ⌝ }
 {
-    let mut i: usize = 0;
-    while i < distinct {
-        if order(text, made, nodes, at, (atoms[i] % 4096) as usize) == 1 {
-            return i;
-        }
-        i += 1;
+    let place = find(text, made, nodes, atoms, distinct, at);
+    if place.found {
+        return place.at;
     }
     distinct
 }

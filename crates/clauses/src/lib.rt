@@ -11,12 +11,14 @@ use text::table::Table;
 ghost use mathlib.Core.Path.{_≡_};
 ghost use mathlib.Core.Bool.{true};
 ghost use Prim.Native.Nat.{_≤_, min};
+ghost use lib.ListN.{length};
 ghost use Rattle.definitions.specs.Syntax.{Formula};
 ghost use Rattle.definitions.specs.Limits.{house};
 ghost use Rattle.definitions.specs.Laws.Shapes.{ready};
-ghost use Rattle.text.specs.Tables.{Holds};
+ghost use Rattle.text.specs.Tables.{as-table, Holds};
 ghost use Rattle.clauses.specs.Laying.{marked};
-ghost use Rattle.clauses.specs.Stage.{Fits, Outcome};
+ghost use Rattle.clauses.specs.declared.Fate.the-variants.{TooMany};
+ghost use Rattle.clauses.specs.Stage.{Whole, Tested, Fits, Outcome};
 
 // Whether there is a set, or the raw clauses or their literals are too many (refusal 8).
 pub enum Fate {
@@ -39,61 +41,84 @@ fn within(used: usize) -> usize
     used
 }
 
-// The clause set of the matrix in a table, conjunctive or disjunctive. Conjunctive, P(x) ⇔ Q(y) in negation form gives {P(x), ¬Q(y)} and
-// {Q(y), ¬P(x)}. Where the raw counts pass a limit the answer is TooMany, and the set means nothing.
-pub fn clauses<'a>(conjunctive: bool, table: Table, text: &'a [u8], made: &'a [u8]) -> Answer
-    ensures fits { λ r. ⌜ Fits (r .set) ⌝ }
-    ensures stage { λ r. ⌜ ((f : Formula) → Holds (now (text .entry)) (now (made .entry)) table f → ready f ≡ true
-        → Outcome (now (text .entry)) (now (made .entry)) (table .nodes) (marked conjunctive) f r) ⌝ }
+// Whether the lent arrays are as long as their types say.
+fn are_whole(
+    nodes: &[u64; Table::WEIGHT],
+    atoms: &[u64; Table::WEIGHT],
+    literals: &[u64; Set::LITERALS],
+    index: &[u64; Set::CLAUSES],
+) -> bool
+    ensures { λ r. ⌜ Tested (now (nodes .entry)) (now (atoms .entry)) (now (literals .entry)) (now (index .entry)) r ⌝ }
 {
-    let nodes = table.nodes;
-    let used = within(table.used);
-    let mut atoms = [0u64; Table::WEIGHT];
-    let mut literals = [0u64; Set::LITERALS];
-    let mut index = [0u64; Set::CLAUSES];
+    if !Table::is_whole(nodes) {
+        return false;
+    }
+    if !Table::is_whole(atoms) {
+        return false;
+    }
+    let store: &[u64] = literals;
+    if store.len() != Set::LITERALS {
+        return false;
+    }
+    let words: &[u64] = index;
+    words.len() == Set::CLAUSES
+}
+
+// No set.
+fn none() -> Answer
+    ensures { λ r. ⌜ r ≡ record { set = record { distinct = 0; count = 0 }; fate = TooMany } ⌝ }
+{
+    Answer {
+        set: Set {
+            distinct: 0,
+            count: 0,
+        },
+        fate: Fate::TooMany,
+    }
+}
+
+// The clause set of the matrix in the first `used` nodes, conjunctive or disjunctive, in the three arrays. Conjunctive, P(x) ⇔ Q(y) in negation
+// form gives {P(x), ¬Q(y)} and {Q(y), ¬P(x)}. Where the raw counts pass a limit the answer is TooMany, and the arrays mean nothing.
+pub fn clauses<'a>(
+    conjunctive: bool,
+    nodes: &[u64; Table::WEIGHT],
+    used: usize,
+    text: &'a [u8],
+    made: &'a [u8],
+    atoms: &mut [u64; Table::WEIGHT],
+    literals: &mut [u64; Set::LITERALS],
+    index: &mut [u64; Set::CLAUSES],
+) -> Answer
+    ensures fits { λ r. ⌜ Fits (r .set) ⌝ }
+    ensures stage { λ r. ⌜ (Whole (now (nodes .entry)) (now (atoms .entry)) (now (literals .entry)) (now (index .entry))
+        → (f : Formula) → Holds (now (text .entry)) (now (made .entry)) (as-table (now (nodes .entry)) used) f → ready f ≡ true
+        → Outcome (now (text .entry)) (now (made .entry)) (now (nodes .entry)) (marked conjunctive) f (now (atoms .exit)) (now (literals .exit)) (now (index .exit)) r) ⌝ }
+    ensures sizes { λ r. ⌜ (length (now (atoms .exit)) ≡ length (now (atoms .entry))) × (length (now (literals .exit)) ≡ length (now (literals .entry)))
+        × (length (now (index .exit)) ≡ length (now (index .entry))) ⌝ }
+{
+    if !are_whole(nodes, atoms, literals, index) {
+        return none();
+    }
+    let end = within(used);
     let mut plan = [0u64; Table::WEIGHT];
-    let p = plan::lay_out(&nodes, used, conjunctive, &mut plan);
+    let p = plan::lay_out(nodes, end, conjunctive, &mut plan);
     let root = plan::entry(&plan, p);
     let many = plan::clauses(root) as usize;
     if many > Set::CLAUSES {
-        let none = Set {
-            atoms: atoms,
-            distinct: 0,
-            literals: literals,
-            clauses: index,
-            count: 0,
-        };
-        return Answer {
-            set: none,
-            fate: Fate::TooMany,
-        };
+        return none();
     }
     if plan::literals(root) as usize > Set::LITERALS {
-        let none = Set {
-            atoms: atoms,
-            distinct: 0,
-            literals: literals,
-            clauses: index,
-            count: 0,
-        };
-        return Answer {
-            set: none,
-            fate: Fate::TooMany,
-        };
+        return none();
     }
-    let distinct = atoms::collect(text, made, &nodes, used, &mut atoms);
-    plan::label(text, made, &nodes, &atoms, distinct, &mut plan, p);
+    let distinct = atoms::collect(text, made, nodes, end, atoms);
+    plan::label(text, made, nodes, atoms, distinct, &mut plan, p);
     let mut clause = [0u64; Table::WEIGHT];
-    let grown = sets::gather(&plan, p, many, &mut clause, &mut literals, &mut index);
-    let set = Set {
-        atoms: atoms,
-        distinct: distinct,
-        literals: literals,
-        clauses: index,
-        count: grown.count,
-    };
+    let grown = sets::gather(&plan, p, many, &mut clause, literals, index);
     Answer {
-        set: set,
+        set: Set {
+            distinct: distinct,
+            count: grown.count,
+        },
         fate: Fate::Given,
     }
 }

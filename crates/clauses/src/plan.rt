@@ -19,6 +19,8 @@ ghost use Rattle.text.specs.Words.{kind-of};
 ghost use Rattle.clauses.specs.Plans.{Plan, made as made-of, clamped, plan-word, form-of, size-of, clauses-of, literals-of, number-of, words};
 ghost use Rattle.clauses.specs.Laying.{marked, atomic as atomic-kind, constant-word, form-for, sum-word, product-word, joined-word, leaf-word, laid-before, laid};
 ghost use Rattle.clauses.specs.Ranks.{rank as rank-among, relabelled};
+ghost use Rattle.clauses.specs.Search.{Findable};
+ghost use Rattle.clauses.specs.Each.{All};
 ghost use Rattle.clauses.specs.Steps.{Laid, Walked};
 
 // The forms of a plan's words, but for constants.
@@ -241,7 +243,8 @@ fn relabel<'a>(
     word: u64,
 ) -> u64
     requires { ⌜ (length (now nodes) ≡ house .weight) × (length (now atoms) ≡ house .weight) × (distinct ≤ house .weight) ⌝ }
-    ensures { λ r. ⌜ r ≡ relabelled (rank-among (now (text .entry)) (now (made .entry)) (now (nodes .entry)) (take distinct (now (atoms .entry)))) word ⌝ }
+    ensures { λ r. ⌜ (Findable (now (text .entry)) (now (made .entry)) (now (nodes .entry)) (take distinct (now (atoms .entry))) word
+        → r ≡ relabelled (rank-among (now (text .entry)) (now (made .entry)) (now (nodes .entry)) (take distinct (now (atoms .entry)))) word) ⌝ }
 {
     if word % 4 != LEAF {
         return word;
@@ -262,7 +265,12 @@ pub fn label<'a>(
     p: usize,
 )
     requires { ⌜ (length (now nodes) ≡ house .weight) × (length (now atoms) ≡ house .weight) × (distinct ≤ house .weight) × (length (now plan) ≡ house .weight) × (p ≤ house .weight) ⌝ }
-    ensures { λ r. ⌜ (length (now (plan .exit)) ≡ house .weight) × (drop p (now (plan .exit)) ≡ map (relabelled (rank-among (now (text .entry)) (now (made .entry)) (now (nodes .entry)) (take distinct (now (atoms .entry))))) (drop p (now (plan .entry)))) ⌝ }
+    ensures safe { λ r. ⌜ length (now (plan .exit)) ≡ house .weight ⌝ }
+    ensures does { λ r. ⌜ (
+        All (Findable (now (text .entry)) (now (made .entry)) (now (nodes .entry)) (take distinct (now (atoms .entry)))) (drop p (now (plan .entry)))
+        → drop p (now (plan .exit))
+        ≡ map (relabelled (rank-among (now (text .entry)) (now (made .entry)) (now (nodes .entry)) (take distinct (now (atoms .entry)))))
+        (drop p (now (plan .entry)))) ⌝ }
 {
     let mut i = Table::WEIGHT;
     while i > p {

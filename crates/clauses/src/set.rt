@@ -1,13 +1,9 @@
-// A clause set in tables: a value of its own, which later steps read and write.
-use text::table::Table;
+// A clause set in three arrays, which later steps read and write. Part words are start + 4096 * length.
 
-// Part words are start + 4096 * length. The first `distinct` of `atoms` are parts of the node table, the atoms in their order. A literal is
-// its atom's rank, and 1,024 more if it is negative. The first `count` of `clauses` are parts of `literals`, the clauses in their order.
+// How many atoms and clauses there are. The first `distinct` of the atoms are parts of the node table, the atoms in their order. A literal
+// is its atom's rank, and 1,024 more if it is negative. The first `count` of the index are parts of the literals, the clauses in their order.
 pub struct Set {
-    pub atoms: [u64; Table::WEIGHT],
     pub distinct: usize,
-    pub literals: [u64; Set::LITERALS],
-    pub clauses: [u64; Set::CLAUSES],
     pub count: usize,
 }
 

@@ -10,6 +10,7 @@ ghost use Rattle.definitions.specs.Limits.{house};
 ghost use Rattle.definitions.specs.Order.{insert, set-of};
 ghost use Rattle.clauses.specs.Plans.{Plan, made as made-of, words};
 ghost use Rattle.clauses.specs.Ranks.{ordering-of, part, part-word};
+ghost use Rattle.clauses.specs.Search.{Falls, Finds};
 ghost use Rattle.clauses.specs.Sets.{entries, cmp-numbers, sets-of};
 ghost use Rattle.clauses.specs.Steps.{total, Within, Room, Grows};
 
@@ -29,27 +30,57 @@ pub fn shift(out: &mut [u64], i: usize, n: usize, x: u64)
     out[n] = carry;
 }
 
+// A place in a sorted table, and whether what is sought stands there already.
+pub struct Place {
+    pub at: usize,
+    pub found: bool,
+}
+
+// Where a number stands among the first n of a sorted table, or is to be put. Each look leaves out the half that cannot have it.
+fn find(numbers: &[u64; Table::WEIGHT], n: usize, x: u64) -> Place
+    requires { ⌜ (length (now numbers) ≡ house .weight) × (n ≤ house .weight) ⌝ }
+    ensures safe { λ r. ⌜ r .at ≤ n ⌝ }
+    ensures does { λ r. ⌜ (Falls (compare x) (take n (now (numbers .entry)))
+        → Finds (compare x) (take n (now (numbers .entry))) (r .at) (r .found)) ⌝ }
+{
+    let mut low: usize = 0;
+    let mut high = n;
+    while low < high {
+        let mid = (low + high) / 2;
+        let y = numbers[mid];
+        if x == y {
+            return Place {
+                at: mid,
+                found: true,
+            };
+        }
+        if x < y {
+            high = mid;
+        } else {
+            low = mid + 1;
+        }
+    }
+    Place {
+        at: low,
+        found: false,
+    }
+}
+
 // Puts a literal into the sorted clause of the first n; gives the new number of them. A full table is left as it is.
 pub fn add_literal(x: u64, clause: &mut [u64; Table::WEIGHT], n: usize) -> usize
     requires { ⌜ (length (now clause) ≡ house .weight) × (n ≤ house .weight) ⌝ }
-    ensures { λ r. ⌜ (length (now (clause .exit)) ≡ house .weight) × (r ≤ house .weight) × (n < house .weight → take r (now (clause .exit)) ≡ insert compare x (take n (now (clause .entry)))) ⌝ }
+    ensures safe { λ r. ⌜ (length (now (clause .exit)) ≡ house .weight) × (r ≤ house .weight) ⌝ }
+    ensures does { λ r. ⌜ (n < house .weight → Falls (compare x) (take n (now (clause .entry)))
+        → take r (now (clause .exit)) ≡ insert compare x (take n (now (clause .entry)))) ⌝ }
 {
     if n >= Table::WEIGHT {
         return n;
     }
-    let mut i: usize = 0;
-    while i < n {
-        let y = clause[i];
-        if x == y {
-            return n;
-        }
-        if x < y {
-            shift(clause, i, n, x);
-            return n + 1;
-        }
-        i += 1;
+    let place = find(clause, n, x);
+    if place.found {
+        return n;
     }
-    shift(clause, i, n, x);
+    shift(clause, place.at, n, x);
     n + 1
 }
 

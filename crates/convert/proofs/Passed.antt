@@ -5,7 +5,7 @@ use mathlib.Core.List.{List, [], _∷_, _++_}
 use Prim.Native.Nat.{ℕ, _+_, _*_, _<_, _≤_}
 use native.Mathlib.Omega.{arith}
 use lib.Dec.{ltb}
-use lib.ListN.{length, take}
+use lib.ListN.{length, take, replicate, length-replicate}
 use borrow.Author.Tests.{ltb-true, ltb-false, lt-ltb, le-ltb}
 use Rattle.definitions.specs.Bytes.{Bytes}
 use Rattle.definitions.specs.Syntax.{Name, Quant, Formula, weight}
@@ -26,7 +26,7 @@ use Rattle.definitions.specs.Laws.Kept.{each, simplify-each, nnf-each, widest-m
 use Rattle.definitions.specs.Laws.Passing.{short, few, good-each, each-stage, simplify-stage}
 use Rattle.definitions.specs.Laws.Outward.{outward-widest}
 use Rattle.text.specs.Words.{tokens}
-use Rattle.text.specs.Tables.{Holds}
+use Rattle.text.specs.Tables.{as-table, Holds}
 use Rattle.text.specs.Prefixes.{prefix-code, Apart}
 use Rattle.negation.specs.declared.Staged.{Staged}
 use Rattle.negation.specs.declared.Stage.the-variants as fates
@@ -96,30 +96,34 @@ made-prenex r w (long e h l) d = let z : _≡_ {A = ℕ} 0 1 = cc in absurd (ome
 made-prenex {f = f} r w (made e h l a) d =
     (simplify-stage house f (second f r) w ∙ rw (prenex-large f w, le-ltb (house .weight) (weight (formula (pnf f))) h, l), h, short-tame (formula (pnf f)) l, a)
 
--- stage 3: work has room for the names
-pub no-room-made : {T M M′ : Bytes} {used : ℕ} {k : Counters} {r : Skolemised} {s : form.Skolemised} → published house ≤ length M → used ≤ 25 * house .weight
-    → k ≡ record { constants = 0; functions = 0 } → third.Outcome T M used k M′ r s → r .fate ≡ ends.NoRoom → ⊥
+-- stage 3, in arrays that are empty first
+pub empty-tables : {P X : List ℕ} → length P ≡ house .weight → length X ≡ house .weight → third.Whole P X (replicate 1024 0) (replicate 1024 0)
+empty-tables a b = record { prefix = a; matrix = b; blocks = length-replicate {A = ℕ} 1024 0; body = length-replicate {A = ℕ} 1024 0 }
+
+-- work has room for the names
+pub no-room-made : {T M M′ : Bytes} {used : ℕ} {k : Counters} {O Q : List ℕ} {r : Skolemised} {s : form.Skolemised} → published house ≤ length M → used ≤ 25 * house .weight
+    → k ≡ record { constants = 0; functions = 0 } → third.Outcome T M used k M′ O Q r s → r .fate ≡ ends.NoRoom → ⊥
 no-room-made m u e (third.made d l b h c) z = let o : _≡_ {A = ℕ} 0 1 = cc in absurd (omega arith)
 no-room-made m u e (third.heavy d l c) z = let o : _≡_ {A = ℕ} 0 1 = cc in absurd (omega arith)
 no-room-made m u e (third.no-room d n) z = n (record { bytes = omega arith; near = omega arith; constants = rw e (omega arith); functions = rw e (omega arith) })
 
-pub heavy-skolem : {T M M′ : Bytes} {used : ℕ} {k : Counters} {r : Skolemised} {s : form.Skolemised} (x : Result) → third.Outcome T M used k M′ r s → r .fate ≡ ends.Heavy
+pub heavy-skolem : {T M M′ : Bytes} {used : ℕ} {k : Counters} {O Q : List ℕ} {r : Skolemised} {s : form.Skolemised} (x : Result) → third.Outcome T M used k M′ O Q r s → r .fate ≡ ends.Heavy
     → stage house 3 (skolem-formula s) x ≡ refused 7 3
 heavy-skolem x (third.made d l b h c) z = let o : _≡_ {A = ℕ} 0 1 = cc in absurd (omega arith)
 heavy-skolem x (third.heavy d l c) z = rw l
 heavy-skolem x (third.no-room d n) z = let o : _≡_ {A = ℕ} 0 1 = cc in absurd (omega arith)
 
 -- the counters start at 0
-pub from-zero : {T M M′ : Bytes} {used : ℕ} {k : Counters} {r : Skolemised} (p : Prenex) → k ≡ record { constants = 0; functions = 0 }
-    → third.Outcome T M used k M′ r (skolemise p (counts-of k)) → third.Outcome T M used k M′ r (skolemise p zero-counts)
-from-zero {T} {M} {M′} {used} {k} {r} p e o = let z : counts-of k ≡ zero-counts = ap counts-of e in subst (λ (c : form.Counts). third.Outcome T M used k M′ r (skolemise p c)) z o
+pub from-zero : {T M M′ : Bytes} {used : ℕ} {k : Counters} {O Q : List ℕ} {r : Skolemised} (p : Prenex) → k ≡ record { constants = 0; functions = 0 }
+    → third.Outcome T M used k M′ O Q r (skolemise p (counts-of k)) → third.Outcome T M used k M′ O Q r (skolemise p zero-counts)
+from-zero {T} {M} {M′} {used} {k} {O} {Q} {r} p e o = let z : counts-of k ≡ zero-counts = ap counts-of e in subst (λ (c : form.Counts). third.Outcome T M used k M′ O Q r (skolemise p c)) z o
 
--- the form that was made: its tables, its weight, and its matrix without blocks and with names and functions that pass
-pub record Third (T M : Bytes) (r : Skolemised) (s : form.Skolemised) : Type 0 where
+-- the form that was made: its words, its weight, and its matrix without blocks and with names and functions that pass
+pub record Third (T M : Bytes) (O Q : List ℕ) (r : Skolemised) (s : form.Skolemised) : Type 0 where
   pub light : weight (skolem-formula s) ≤ house .weight
   pub narrow : Narrow (s .matrix)
-  pub blocks : tokens T M (take (r .prefix .used) (r .prefix .nodes)) ≡ prefix-code (s .prefix)
-  pub body : Holds T M (r .matrix) (s .matrix)
+  pub blocks : tokens T M (take (r .blocks) O) ≡ prefix-code (s .prefix)
+  pub body : Holds T M (as-table Q (r .body)) (s .matrix)
 
 light-of : (f : Formula) → too-large house f ≡ false → weight f ≤ house .weight
 unfolding too-large
@@ -129,9 +133,9 @@ narrow-of : (f : Formula) → too-large house f ≡ false → widest f ≤ house
 unfolding too-large
 narrow-of f l = ltb-false (house .arguments) (widest f) (or-false-right (ltb (house .weight) (weight f)) (ltb (house .arguments) (widest f)) l)
 
-pub made-skolem : {T M M′ : Bytes} {used : ℕ} {k : Counters} {r : Skolemised} (p : Prenex) (x : Result) → Tame (formula p)
-    → third.Outcome T M used k M′ r (skolemise p zero-counts) → r .fate ≡ ends.Made
-    → (stage house 3 (skolem-formula (skolemise p zero-counts)) x ≡ x) × Third T M′ r (skolemise p zero-counts)
+pub made-skolem : {T M M′ : Bytes} {used : ℕ} {k : Counters} {O Q : List ℕ} {r : Skolemised} (p : Prenex) (x : Result) → Tame (formula p)
+    → third.Outcome T M used k M′ O Q r (skolemise p zero-counts) → r .fate ≡ ends.Made
+    → (stage house 3 (skolem-formula (skolemise p zero-counts)) x ≡ x) × Third T M′ O Q r (skolemise p zero-counts)
 unfolding too-long
 made-skolem p x t (third.made d l b h c) z =
     let s = skolemise p zero-counts in
@@ -155,12 +159,12 @@ fourth : (q : Quant) (m : Formula) → Narrow m → as-clauses house q m ≡ ref
 unfolding as-clauses
 fourth q m n = each-stage house 4 (nnf m) (fifth q (nnf m)) (nnf-each (short house) (few house) m n)
 
-pub heavy-matrix : {T M : Bytes} {s : Staged} (q : Quant) (m : Formula) → Narrow m → Stages T M s (nnf m) → s .fate ≡ Full → as-clauses house q m ≡ refused 7 4
+pub heavy-matrix : {T M : Bytes} {O : List ℕ} {s : Staged} (q : Quant) (m : Formula) → Narrow m → Stages T M O s (nnf m) → s .fate ≡ Full → as-clauses house q m ≡ refused 7 4
 heavy-matrix q m n (stages.made e l h) d = let z : _≡_ {A = ℕ} 0 1 = cc in absurd (omega arith)
 heavy-matrix q m n (stages.full e h) d = fourth q m n ∙ rw (lt-ltb (house .weight) (weight (nnf m)) h)
 
-pub made-matrix : {T M : Bytes} {s : Staged} (q : Quant) (m : Formula) → Narrow m → Stages T M s (nnf m) → s .fate ≡ fates.Made
-    → Holds T M (s .table) (nnf m) × (as-clauses house q m ≡ fifth q (nnf m))
+pub made-matrix : {T M : Bytes} {O : List ℕ} {s : Staged} (q : Quant) (m : Formula) → Narrow m → Stages T M O s (nnf m) → s .fate ≡ fates.Made
+    → Holds T M (as-table O (s .used)) (nnf m) × (as-clauses house q m ≡ fifth q (nnf m))
 made-matrix q m n (stages.made e l h) d = (h, fourth q m n ∙ rw (le-ltb (house .weight) (weight (nnf m)) l))
 made-matrix q m n (stages.full e h) d = let z : _≡_ {A = ℕ} 0 1 = cc in absurd (omega arith)
 
@@ -189,12 +193,15 @@ pub snf-dnf-tree : (f : Formula) → convert-tree house snf-to-dnf f ≡ of-skol
 unfolding convert-tree
 snf-dnf-tree f = refl
 
--- stage 5
-pub too-many-clauses : {T M : Bytes} {S : List ℕ} {q : Quant} {g : Formula} {a : Sets} → fifths.Outcome T M S q g a → a .fate ≡ TooMany → fifth q g ≡ refused 8 5
+-- stage 5, in arrays that are empty first
+pub empty-arrays : {S : List ℕ} → length S ≡ house .weight → fifths.Whole S (replicate 1024 0) (replicate 2048 0) (replicate 256 0)
+empty-arrays e = record { nodes = e; atoms = length-replicate {A = ℕ} 1024 0; literals = length-replicate {A = ℕ} 2048 0; index = length-replicate {A = ℕ} 256 0 }
+
+pub too-many-clauses : {T M : Bytes} {S A L X : List ℕ} {q : Quant} {g : Formula} {a : Sets} → fifths.Outcome T M S q g A L X a → a .fate ≡ TooMany → fifth q g ≡ refused 8 5
 too-many-clauses (fifths.given e l d) z = let o : _≡_ {A = ℕ} 0 1 = cc in absurd (omega arith)
 too-many-clauses (fifths.refused e l) z = rw l
 
-pub set-given : {T M : Bytes} {S : List ℕ} {q : Quant} {g : Formula} {a : Sets} → fifths.Outcome T M S q g a → a .fate ≡ Given
-    → (fifth q g ≡ given (listing (clauses q g))) × Denotes T M S (a .set) (clauses q g)
+pub set-given : {T M : Bytes} {S A L X : List ℕ} {q : Quant} {g : Formula} {a : Sets} → fifths.Outcome T M S q g A L X a → a .fate ≡ Given
+    → (fifth q g ≡ given (listing (clauses q g))) × Denotes T M S A L X (a .set) (clauses q g)
 set-given (fifths.given e l d) z = (rw l, d)
 set-given (fifths.refused e l) z = let o : _≡_ {A = ℕ} 0 1 = cc in absurd (omega arith)

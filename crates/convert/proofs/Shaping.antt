@@ -1,6 +1,7 @@
 -- The shape of a rule, as refusal 4 has it, and the matrix of one.
 use mathlib.Core.Path.{_≡_, refl, sym, ap, _∙_}
 use mathlib.Core.Bool.{Bool, true, false, not, _&&_}
+use mathlib.Core.List.{List}
 use Prim.Native.Nat.{ℕ}
 use Rattle.definitions.specs.Bytes.{Bytes}
 use Rattle.definitions.specs.Syntax.{Formula}
@@ -18,9 +19,8 @@ use Rattle.skolem.specs.declared.shape.Shape.{Shape}
 use Rattle.skolem.specs.declared.shape.Shape.the-variants as shapes
 use Rattle.skolem.specs.declared.shape.Halves.{Halves}
 use Rattle.skolem.specs.Shape.{Shaped, Parted, skolem-shape, prenex-shape}
-use Rattle.text.specs.Tables.{Holds}
+use Rattle.text.specs.Tables.{as-table, Holds}
 use Rattle.text.specs.Prefixes.{Apart}
-use Rattle.text.specs.declared.table.Table.{Table}
 use Rattle.convert.specs.declared.stages.Last.the-variants.{Form}
 use Rattle.convert.specs.Stages.{Rule, Tame, Narrow, ending, of-skolem}
 use Rattle.convert.proofs.Tame.{tame-from, matrix-each}
@@ -66,8 +66,9 @@ pub clean-rule : (f : Formula) (r : Result) {c : Bool} → c ≡ not (hash-free 
 clean-rule f r g h = rw (sym g ∙ h)
 
 -- the two halves of a rule in prenex form
-pub halves-apart : (T M : Bytes) (f : Formula) {t : Table} {h : Halves} {r : Shape} {b : Bool} → Rule T t f → ((T M : Bytes) (f : Formula) → Holds T M t f → Parted T M f h)
-    → Shaped f r → b ≡ prenex-shape r → b ≡ true → Apart T M 0 (h .prefix) (h .matrix) (parted f)
+pub halves-apart : (T M : Bytes) (f : Formula) {S X : List ℕ} {n : ℕ} {h : Halves} {r : Shape} {b : Bool} → Rule T (as-table S n) f
+    → ((T M : Bytes) (f : Formula) → Holds T M (as-table S n) f → Parted T M S X f h)
+    → Shaped f r → b ≡ prenex-shape r → b ≡ true → Apart T M 0 (as-table S (h .prefix)) (as-table X (h .matrix)) (parted f)
 unfolding is-prenex
 halves-apart T M f u p s e d = record {
   prefix-room = p T M f (u .holds M) .prefix-room;

@@ -2,6 +2,7 @@
 use mathlib.Core.Path.{_≡_, refl, sym, ap, _∙_}
 use mathlib.Core.Bool.{Bool, true, false, cond}
 use mathlib.Core.Logic.{_↔_}
+use mathlib.Core.List.{List}
 use Prim.Native.Nat.{ℕ, _<_, _≤_}
 use native.Mathlib.Omega.{arith}
 use lib.Dec.{ltb}
@@ -25,7 +26,7 @@ use Rattle.reader.specs.declared.Outcome.{Outcome}
 use Rattle.reader.specs.declared.Verdict.{Verdict}
 use Rattle.reader.specs.declared.Verdict.the-variants.{Tree, Malformed, Large}
 use Rattle.text.specs.Words.{tokens}
-use Rattle.text.specs.Tables.{Holds}
+use Rattle.text.specs.Tables.{as-table, Holds}
 use Rattle.writer.specs.Writer.{text-of, Writes, answer-of}
 use Rattle.writer.specs.WriterLaws.{text-of-table}
 use Rattle.reader.specs.Reader.{Says, Reads}
@@ -131,12 +132,12 @@ long-enough c text out work h a z = record {
 }
 
 -- what stage 4 made of a rule within the limits
-pub heavy-negation : {T M : Bytes} {s : Staged} {f : Formula} {out : Bytes} {r : Answer} → Within house f → Stages T M s (nnf f) → s .fate ≡ Full
+pub heavy-negation : {T M : Bytes} {O : List ℕ} {s : Staged} {f : Formula} {out : Bytes} {r : Answer} → Within house f → Stages T M O s (nnf f) → s .fate ≡ Full
     → meaning r ≡ not-given 7 4 → Answered (convert-tree house to-nnf f) out r out
 heavy-negation w (made e l h) d m = let z : _≡_ {A = ℕ} 0 1 = cc in absurd (omega arith)
 heavy-negation w (full e h) d m = is-refused (negation-heavy w h) m
 
-pub made-negation : {T M : Bytes} {s : Staged} {f : Formula} → Within house f → Stages T M s (nnf f) → s .fate ≡ Made
-    → Holds T M (s .table) (nnf f) × (given (written (nnf f)) ≡ convert-tree house to-nnf f)
+pub made-negation : {T M : Bytes} {O : List ℕ} {s : Staged} {f : Formula} → Within house f → Stages T M O s (nnf f) → s .fate ≡ Made
+    → Holds T M (as-table O (s .used)) (nnf f) × (given (written (nnf f)) ≡ convert-tree house to-nnf f)
 made-negation w (made e l h) d = (h, sym (negation-fits w l))
 made-negation w (full e h) d = let z : _≡_ {A = ℕ} 0 1 = cc in absurd (omega arith)

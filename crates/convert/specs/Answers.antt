@@ -1,5 +1,6 @@
 -- What the answers of the conversions mean, document 01's number and place for each, and what a call promises.
 use mathlib.Core.Path.{_≡_}
+use Prim.Native.Nat.{ℕ}
 use lib.ListN.{length}
 use Rattle.definitions.specs.Bytes.{Bytes}
 use Rattle.definitions.specs.Syntax.{Formula}
@@ -22,6 +23,15 @@ meaning (Name stage) = not-given 6 stage
 meaning (Weight stage) = not-given 7 stage
 meaning Clauses = not-given 8 5
 meaning Work = not-given 9 0
+
+-- an answer in two numbers: 0 where a text is given, for no refusal has that number; and the text's length, or the refusal's place
+abbrev pub number-of : Rattle.definitions.specs.Convert.Answer → ℕ
+number-of (accepted n) = 0
+number-of (not-given number place) = number
+
+abbrev pub place-of : Rattle.definitions.specs.Convert.Answer → ℕ
+place-of (accepted n) = n
+place-of (not-given number place) = place
 
 -- document 01's conversion for each name
 abbrev pub named : Conversion → Rattle.definitions.specs.Convert.Conversion

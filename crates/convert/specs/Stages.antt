@@ -1,6 +1,7 @@
 -- What the stages of a conversion say to one another.
 use mathlib.Core.Path.{_≡_}
 use mathlib.Core.Bool.{Bool, true, not}
+use mathlib.Core.List.{List}
 use Prim.Native.Nat.{ℕ, _≤_}
 use lib.ListN.{length, take}
 use Rattle.definitions.specs.Bytes.{Bytes}
@@ -14,7 +15,7 @@ use Rattle.definitions.specs.Laws.Within.{Within}
 use Rattle.definitions.specs.Laws.Kept.{each}
 use Rattle.definitions.specs.Laws.Passing.{short, few}
 use Rattle.text.specs.Words.{tokens}
-use Rattle.text.specs.Tables.{Holds}
+use Rattle.text.specs.Tables.{as-table, Holds}
 use Rattle.text.specs.Prefixes.{prefix-code}
 use Rattle.text.specs.declared.table.Table.{Table}
 use Rattle.substitution.specs.Runs.{Unmade}
@@ -37,16 +38,16 @@ Tame f = each (short house) (λ (n : ℕ). true) f ≡ true
 abbrev pub Narrow : Formula → Type 0
 Narrow f = each (short house) (few house) f ≡ true
 
--- blocks and matrix of a formula that a table has room for, in one table
-pub record Joined (prefix matrix r : Table) : Type 0 where
-  pub form : (T M : Bytes) (p : Prefix) (m : Formula) → weight (close p m) ≤ house .weight → prefix .used ≤ house .weight
-      → tokens T M (take (prefix .used) (prefix .nodes)) ≡ prefix-code p → Holds T M matrix m → Holds T M r (close p m)
+-- blocks and matrix of a formula that a table has room for, one behind the other
+pub record Joined (P : List ℕ) (bound : ℕ) (X : List ℕ) (size : ℕ) (P′ : List ℕ) (r : ℕ) : Type 0 where
+  pub form : (T M : Bytes) (p : Prefix) (m : Formula) → weight (close p m) ≤ house .weight → bound ≤ house .weight
+      → tokens T M (take bound P) ≡ prefix-code p → Holds T M (as-table X size) m → Holds T M (as-table P′ r) (close p m)
 
 -- stages 1 and 2 of a rule
-pub record Prenexes (T M : Bytes) (t : Table) (M′ : Bytes) (r : Prenexed) : Type 0 where
+pub record Prenexes (T M : Bytes) (S : List ℕ) (n : ℕ) (M′ : Bytes) (r : Prenexed) : Type 0 where
   pub size : length M′ ≡ length M
   pub count : r .made ≤ made-size
-  pub form : published house ≤ length M → (f : Formula) → Rule T t f → Outcome T M′ r (pnf f)
+  pub form : published house ≤ length M → (f : Formula) → Rule T (as-table S n) f → Outcome T M′ r (pnf f)
 
 -- what follows stage 3
 abbrev pub ending : Last → Skolemised → Result

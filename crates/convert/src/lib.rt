@@ -5,7 +5,7 @@ ghost use lib.ListN.{length, replicate};
 ghost use Rattle.definitions.specs.Bytes.{Bytes};
 ghost use Rattle.definitions.specs.Limits.{house, published};
 ghost use Rattle.definitions.specs.Convert.{to-simplified, to-nnf, to-pnf, to-snf, to-cnf, to-dnf, pnf-to-snf, snf-to-cnf, snf-to-dnf};
-ghost use Rattle.convert.specs.Answers.{named, Meets, Gives};
+ghost use Rattle.convert.specs.Answers.{meaning, number-of, place-of, named, Meets, Gives};
 use crate::stages::staged;
 use reader::Verdict;
 use reader::read;
@@ -42,6 +42,42 @@ pub enum Answer {
     Work,
 }
 
+// The refusal's number, 0 where there is a text.
+pub fn number_of(answer: Answer) -> u64
+    ensures { λ r. ⌜ r ≡ number-of (meaning answer) ⌝ }
+{
+    match answer {
+        Answer::Length(_) => 0,
+        Answer::Room => 1,
+        Answer::Malformed(_) => 2,
+        Answer::Large(_) => 3,
+        Answer::Shape => 4,
+        Answer::Hash => 5,
+        Answer::Name(_) => 6,
+        Answer::Weight(_) => 7,
+        Answer::Clauses => 8,
+        Answer::Work => 9,
+    }
+}
+
+// The text's length, or the refusal's line, stage or 0.
+pub fn place_of(answer: Answer) -> usize
+    ensures { λ r. ⌜ r ≡ place-of (meaning answer) ⌝ }
+{
+    match answer {
+        Answer::Length(n) => n,
+        Answer::Room => 0,
+        Answer::Malformed(line) => line,
+        Answer::Large(line) => line,
+        Answer::Shape => 0,
+        Answer::Hash => 0,
+        Answer::Name(stage) => stage,
+        Answer::Weight(stage) => stage,
+        Answer::Clauses => 5,
+        Answer::Work => 0,
+    }
+}
+
 // Sets every byte to zero.
 fn clear(s: &mut [u8])
     ensures { λ _. ⌜ now (s .exit) ≡ replicate (length (now (s .entry))) 0 ⌝ }
@@ -62,10 +98,7 @@ fn inside(which: Conversion, text: &[u8], made: &mut [u8], out: &mut [u8]) -> An
     match verdict {
         Verdict::Malformed(k) => Answer::Malformed(k),
         Verdict::Large(k) => Answer::Large(k),
-        Verdict::Tree => {
-            let table = o.table;
-            staged(which, table, text, made, out)
-        }
+        Verdict::Tree => staged(which, &o.table.nodes, o.table.used, text, made, out),
     }
 }
 

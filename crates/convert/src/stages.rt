@@ -1,6 +1,7 @@
 // The stages that the conversions pass, of a rule that was read. Each function refuses, or hands its tables to the next.
 use crate::Answer;
 use crate::Conversion;
+use clauses::set::Set;
 use listing::write_listing;
 use negation::Stage;
 use negation::negation_form;
@@ -17,7 +18,7 @@ use writer::write;
 ghost use mathlib.Core.Path.{_≡_};
 ghost use mathlib.Core.Bool.{true};
 ghost use mathlib.Core.List.{_++_};
-ghost use Prim.Native.Nat.{_+_, _*_, _≤_};
+ghost use Prim.Native.Nat.{ℕ, _*_, _≤_};
 ghost use lib.ListN.{length, take};
 ghost use Rattle.definitions.specs.Bytes.{Bytes};
 ghost use Rattle.definitions.specs.Syntax.{Formula, weight};
@@ -29,7 +30,7 @@ ghost use Rattle.definitions.specs.Clauses.{raw, clauses as clause-set, listing
 ghost use Rattle.definitions.specs.Convert.{refused-if, given, too-many, stage, as-clauses, through-skolem, snf, to-simplified, to-nnf, to-pnf, pnf-to-snf};
 ghost use Rattle.definitions.specs.Laws.Shapes.{ready};
 ghost use Rattle.text.specs.Words.{tokens};
-ghost use Rattle.text.specs.Tables.{Holds};
+ghost use Rattle.text.specs.Tables.{as-table, Holds};
 ghost use Rattle.text.specs.Prefixes.{prefix-code, Apart};
 ghost use Rattle.clauses.specs.Laying.{marked};
 ghost use Rattle.skolem.specs.Shape.{prenex-shape};
@@ -43,75 +44,106 @@ pub(crate) enum Last {
     Disjunctive,
 }
 
-// Writes a table's formula to the front of out, if there is room for it.
-fn show<'a>(table: Table, text: &'a [u8], made: &'a [u8], out: &mut [u8]) -> Answer
-    ensures { λ r. ⌜ ((f : Formula) → Holds (now (text .entry)) (now (made .entry)) table f → Shows (written f) (now (out .entry)) r (now (out .exit))) ⌝ }
+// Writes the formula of the first `used` nodes to the front of out, if there is room for it.
+fn show<'a>(
+    nodes: &[u64; Table::WEIGHT],
+    used: usize,
+    text: &'a [u8],
+    made: &'a [u8],
+    out: &mut [u8],
+) -> Answer
+    ensures { λ r. ⌜ ((f : Formula) → Holds (now (text .entry)) (now (made .entry)) (as-table (now (nodes .entry)) used) f → Shows (written f) (now (out .entry)) r (now (out .exit))) ⌝ }
 {
-    let used = table.used;
-    match write(&table.nodes, used, text, made, out) {
+    match write(nodes, used, text, made, out) {
         Written::Length(n) => Answer::Length(n),
         Written::NoRoom => Answer::Room,
     }
 }
 
-// Blocks and matrix in one table. What has no room there is left out.
-fn joined(prefix: Table, matrix: Table) -> Table
-    ensures { λ r. ⌜ Joined prefix matrix r ⌝ }
+// Puts the first `size` words of a matrix behind the first `bound` of a prefix; gives how many they are together. What has no room there is
+// left out.
+fn join(
+    prefix: &mut [u64; Table::WEIGHT],
+    bound: usize,
+    matrix: &[u64; Table::WEIGHT],
+    size: usize,
+) -> usize
+    requires { ⌜ (length (now prefix) ≡ house .weight) × (length (now matrix) ≡ house .weight) ⌝ }
+    ensures { λ r. ⌜ Joined (now (prefix .entry)) bound (now (matrix .entry)) size (now (prefix .exit)) r ⌝ }
 {
-    let mut table = prefix;
-    let mut at = prefix.used;
+    let mut at = bound;
     let mut i = 0;
-    while i < matrix.used {
+    while i < size {
         if at >= Table::WEIGHT {
-            return table;
+            return at;
         }
         if i >= Table::WEIGHT {
-            return table;
+            return at;
         }
-        table.nodes[at] = matrix.nodes[i];
+        prefix[at] = matrix[i];
         at += 1;
         i += 1;
     }
-    table.used = at;
-    table
+    at
 }
 
 // Stage 1: it refuses nothing.
-fn simplified<'a>(table: Table, text: &'a [u8], made: &'a [u8], out: &mut [u8]) -> Answer
-    ensures { λ r. ⌜ ((f : Formula) → Rule (now (text .entry)) table f → ShowsTree to-simplified f (now (out .entry)) r (now (out .exit))) ⌝ }
+fn simplified<'a>(
+    nodes: &[u64; Table::WEIGHT],
+    used: usize,
+    text: &'a [u8],
+    made: &'a [u8],
+    out: &mut [u8],
+) -> Answer
+    requires { ⌜ length (now nodes) ≡ house .weight ⌝ }
+    ensures { λ r. ⌜ ((f : Formula) → Rule (now (text .entry)) (as-table (now (nodes .entry)) used) f → ShowsTree to-simplified f (now (out .entry)) r (now (out .exit))) ⌝ }
 {
-    let t = simplify::simplify(table, text, made);
-    show(t, text, made, out)
+    let mut simple = [0u64; Table::WEIGHT];
+    let n = simplify::simplify(nodes, used, text, made, &mut simple);
+    show(&simple, n, text, made, out)
 }
 
 // Stage 4.
-fn negated<'a>(table: Table, text: &'a [u8], made: &'a [u8], out: &mut [u8]) -> Answer
-    ensures { λ r. ⌜ ((f : Formula) → Rule (now (text .entry)) table f → ShowsTree to-nnf f (now (out .entry)) r (now (out .exit))) ⌝ }
+fn negated<'a>(
+    nodes: &[u64; Table::WEIGHT],
+    text: &'a [u8],
+    made: &'a [u8],
+    out: &mut [u8],
+) -> Answer
+    requires { ⌜ length (now nodes) ≡ house .weight ⌝ }
+    ensures { λ r. ⌜ ((n : ℕ) (f : Formula) → Rule (now (text .entry)) (as-table (now (nodes .entry)) n) f → ShowsTree to-nnf f (now (out .entry)) r (now (out .exit))) ⌝ }
 {
-    let s = negation_form(table);
+    let mut form = [0u64; Table::WEIGHT];
+    let s = negation_form(nodes, &mut form);
     let fate = s.fate;
     match fate {
         Stage::Full => Answer::Weight(4),
-        Stage::Made => {
-            let t = s.table;
-            show(t, text, made, out)
-        }
+        Stage::Made => show(&form, s.used, text, made, out),
     }
 }
 
 // Stages 1 and 2.
-fn outward(table: Table, text: &[u8], made: &mut [u8]) -> Prenexed
-    ensures { λ r. ⌜ Prenexes (now (text .entry)) (now (made .entry)) table (now (made .exit)) r ⌝ }
+fn outward(nodes: &[u64; Table::WEIGHT], used: usize, text: &[u8], made: &mut [u8]) -> Prenexed
+    requires { ⌜ length (now nodes) ≡ house .weight ⌝ }
+    ensures { λ r. ⌜ Prenexes (now (text .entry)) (now (made .entry)) (now (nodes .entry)) used (now (made .exit)) r ⌝ }
 {
-    let simple = simplify::simplify(table, text, made);
-    prenex::prenex(simple, text, made)
+    let mut simple = [0u64; Table::WEIGHT];
+    simplify::simplify(nodes, used, text, made, &mut simple);
+    prenex::prenex(&simple, text, made)
 }
 
 // The prenex form.
-fn prenexed(table: Table, text: &[u8], made: &mut [u8], out: &mut [u8]) -> Answer
-    ensures { λ r. ⌜ (published house ≤ length (now (made .entry)) → (f : Formula) → Rule (now (text .entry)) table f → ShowsTree to-pnf f (now (out .entry)) r (now (out .exit))) ⌝ }
+fn prenexed(
+    nodes: &[u64; Table::WEIGHT],
+    used: usize,
+    text: &[u8],
+    made: &mut [u8],
+    out: &mut [u8],
+) -> Answer
+    requires { ⌜ length (now nodes) ≡ house .weight ⌝ }
+    ensures { λ r. ⌜ (published house ≤ length (now (made .entry)) → (f : Formula) → Rule (now (text .entry)) (as-table (now (nodes .entry)) used) f → ShowsTree to-pnf f (now (out .entry)) r (now (out .exit))) ⌝ }
 {
-    let p = outward(table, text, made);
+    let p = outward(nodes, used, text, made);
     let fate = p.fate;
     match fate {
         prenex::Fate::Heavy => Answer::Weight(2),
@@ -119,8 +151,10 @@ fn prenexed(table: Table, text: &[u8], made: &mut [u8], out: &mut [u8]) -> Answe
         // Does not come up: work has its published size.
         prenex::Fate::Unfit => Answer::Work,
         prenex::Fate::Made => {
-            let t = joined(p.prefix, p.matrix);
-            show(t, text, made, out)
+            let mut blocks = p.prefix;
+            let bound = blocks.used;
+            let n = join(&mut blocks.nodes, bound, &p.matrix.nodes, p.matrix.used);
+            show(&blocks.nodes, n, text, made, out)
         }
     }
 }
@@ -128,22 +162,34 @@ fn prenexed(table: Table, text: &[u8], made: &mut [u8], out: &mut [u8]) -> Answe
 // Stage 5 of a matrix in negation form, and its listing.
 fn listed<'a>(
     conjunctive: bool,
-    table: Table,
+    nodes: &'a [u64; Table::WEIGHT],
+    used: usize,
     text: &'a [u8],
     made: &'a [u8],
     out: &mut [u8],
 ) -> Answer
-    ensures { λ r. ⌜ ((g : Formula) → ready g ≡ true → Holds (now (text .entry)) (now (made .entry)) table g
+    requires { ⌜ length (now nodes) ≡ house .weight ⌝ }
+    ensures { λ r. ⌜ ((g : Formula) → ready g ≡ true → Holds (now (text .entry)) (now (made .entry)) (as-table (now (nodes .entry)) used) g
         → Answered (refused-if (too-many house (raw (marked conjunctive) g)) 8 5 (given (listing (clause-set (marked conjunctive) g)))) (now (out .entry)) r (now (out .exit))) ⌝ }
 {
-    let nodes = table.nodes;
-    let a = clauses::clauses(conjunctive, table, text, made);
+    let mut atoms = [0u64; Table::WEIGHT];
+    let mut literals = [0u64; Set::LITERALS];
+    let mut index = [0u64; Set::CLAUSES];
+    let a = clauses::clauses(
+        conjunctive,
+        nodes,
+        used,
+        text,
+        made,
+        &mut atoms,
+        &mut literals,
+        &mut index,
+    );
     let fate = a.fate;
     match fate {
         clauses::Fate::TooMany => Answer::Clauses,
         clauses::Fate::Given => {
-            let set = a.set;
-            match write_listing(set, &nodes, text, made, out) {
+            match write_listing(a.set, &atoms, &literals, &index, nodes, text, made, out) {
                 Written::Length(n) => Answer::Length(n),
                 Written::NoRoom => Answer::Room,
             }
@@ -154,89 +200,124 @@ fn listed<'a>(
 // Stages 4 and 5 of a matrix.
 fn clausal<'a>(
     conjunctive: bool,
-    matrix: Table,
+    matrix: &[u64; Table::WEIGHT],
     text: &'a [u8],
     made: &'a [u8],
     out: &mut [u8],
 ) -> Answer
-    ensures { λ r. ⌜ ((m : Formula) → no-block m ≡ true → Narrow m → Holds (now (text .entry)) (now (made .entry)) matrix m
+    requires { ⌜ length (now matrix) ≡ house .weight ⌝ }
+    ensures { λ r. ⌜ ((n : ℕ) (m : Formula) → no-block m ≡ true → Narrow m → Holds (now (text .entry)) (now (made .entry)) (as-table (now (matrix .entry)) n) m
         → Answered (as-clauses house (marked conjunctive) m) (now (out .entry)) r (now (out .exit))) ⌝ }
 {
-    let s = negation_form(matrix);
+    let mut form = [0u64; Table::WEIGHT];
+    let s = negation_form(matrix, &mut form);
     let fate = s.fate;
     match fate {
         Stage::Full => Answer::Weight(4),
-        Stage::Made => {
-            let t = s.table;
-            listed(conjunctive, t, text, made, out)
-        }
+        Stage::Made => listed(conjunctive, &form, s.used, text, made, out),
     }
 }
 
 // What follows stage 3.
 fn ended<'a>(
     last: Last,
-    prefix: Table,
-    matrix: Table,
+    blocks: &mut [u64; Table::WEIGHT],
+    bound: usize,
+    body: &[u64; Table::WEIGHT],
+    size: usize,
     text: &'a [u8],
     made: &'a [u8],
     out: &mut [u8],
 ) -> Answer
-    ensures { λ r. ⌜ ((s : Skolemised) → weight (skolem-formula s) ≤ house .weight → no-block (s .matrix) ≡ true → Narrow (s .matrix) → prefix .used ≤ house .weight
-        → tokens (now (text .entry)) (now (made .entry)) (take (prefix .used) (prefix .nodes)) ≡ prefix-code (s .prefix)
-        → Holds (now (text .entry)) (now (made .entry)) matrix (s .matrix) → Answered (ending last s) (now (out .entry)) r (now (out .exit))) ⌝ }
+    requires { ⌜ (length (now blocks) ≡ house .weight) × (length (now body) ≡ house .weight) ⌝ }
+    ensures { λ r. ⌜ ((s : Skolemised) → weight (skolem-formula s) ≤ house .weight → no-block (s .matrix) ≡ true → Narrow (s .matrix) → bound ≤ house .weight
+        → tokens (now (text .entry)) (now (made .entry)) (take bound (now (blocks .entry))) ≡ prefix-code (s .prefix)
+        → Holds (now (text .entry)) (now (made .entry)) (as-table (now (body .entry)) size) (s .matrix) → Answered (ending last s) (now (out .entry)) r (now (out .exit))) ⌝ }
 {
     match last {
         Last::Form => {
-            let t = joined(prefix, matrix);
-            show(t, text, made, out)
+            let n = join(blocks, bound, body, size);
+            show(blocks, n, text, made, out)
         }
-        Last::Conjunctive => clausal(true, matrix, text, made, out),
-        Last::Disjunctive => clausal(false, matrix, text, made, out),
+        Last::Conjunctive => clausal(true, body, text, made, out),
+        Last::Disjunctive => clausal(false, body, text, made, out),
     }
 }
 
 // Stage 3 of a prenex form, and what follows.
-fn skolem_stage(
+fn skolem_stage<'a>(
     last: Last,
-    prefix: Table,
-    matrix: Table,
+    prefix: &'a [u64; Table::WEIGHT],
+    bound: usize,
+    matrix: &'a [u64; Table::WEIGHT],
+    size: usize,
     text: &[u8],
     made: &mut [u8],
     used: usize,
     out: &mut [u8],
 ) -> Answer
+    requires { ⌜ (length (now prefix) ≡ house .weight) × (length (now matrix) ≡ house .weight) ⌝ }
     ensures { λ r. ⌜ (published house ≤ length (now (made .entry)) → used ≤ 25 * house .weight → (p : Prenex) → Tame (formula p)
-        → Apart (now (text .entry)) (now (made .entry)) used prefix matrix p
+        → Apart (now (text .entry)) (now (made .entry)) used (as-table (now (prefix .entry)) bound) (as-table (now (matrix .entry)) size) p
         → Answered (stage house 3 (skolem-formula (skolem-form p zero-counts)) (ending last (skolem-form p zero-counts))) (now (out .entry)) r (now (out .exit))) ⌝ }
 {
-    let s = skolemise(prefix, matrix, text, made, used, Counters::start());
+    let mut blocks = [0u64; Table::WEIGHT];
+    let mut body = [0u64; Table::WEIGHT];
+    let s = skolemise(
+        prefix,
+        bound,
+        matrix,
+        size,
+        text,
+        made,
+        used,
+        Counters::start(),
+        &mut blocks,
+        &mut body,
+    );
     let fate = s.fate;
     match fate {
         skolem::Fate::Heavy => Answer::Weight(3),
         // Does not come up: work has its published size.
         skolem::Fate::NoRoom => Answer::Work,
-        skolem::Fate::Made => ended(last, s.prefix, s.matrix, text, made, out),
+        skolem::Fate::Made => ended(last, &mut blocks, s.blocks, &body, s.body, text, made, out),
     }
 }
 
 // Stages 1 to 3, with refusal 5 before them, and what follows.
-fn skolemised(last: Last, table: Table, text: &[u8], made: &mut [u8], out: &mut [u8]) -> Answer
-    ensures { λ r. ⌜ (published house ≤ length (now (made .entry)) → (f : Formula) → Rule (now (text .entry)) table f
+fn skolemised(
+    last: Last,
+    nodes: &[u64; Table::WEIGHT],
+    used: usize,
+    text: &[u8],
+    made: &mut [u8],
+    out: &mut [u8],
+) -> Answer
+    requires { ⌜ length (now nodes) ≡ house .weight ⌝ }
+    ensures { λ r. ⌜ (published house ≤ length (now (made .entry)) → (f : Formula) → Rule (now (text .entry)) (as-table (now (nodes .entry)) used) f
         → Answered (through-skolem house f (ending last (snf f))) (now (out .entry)) r (now (out .exit))) ⌝ }
 {
-    let used = table.used;
-    if has_hash(&table.nodes, used, text, made) {
+    if has_hash(nodes, used, text, made) {
         return Answer::Hash;
     }
-    let p = outward(table, text, made);
+    let p = outward(nodes, used, text, made);
     let fate = p.fate;
     match fate {
         prenex::Fate::Heavy => Answer::Weight(2),
         prenex::Fate::Long => Answer::Name(2),
         // Does not come up: work has its published size.
         prenex::Fate::Unfit => Answer::Work,
-        prenex::Fate::Made => skolem_stage(last, p.prefix, p.matrix, text, made, p.made, out),
+        prenex::Fate::Made => skolem_stage(
+            last,
+            &p.prefix.nodes,
+            p.prefix.used,
+            &p.matrix.nodes,
+            p.matrix.used,
+            text,
+            made,
+            p.made,
+            out,
+        ),
     }
 }
 
@@ -252,37 +333,56 @@ fn is_prenex(shape: Shape) -> bool
 }
 
 // Stage 3 of a rule in prenex form, with refusals 4 and 5 before it.
-fn of_prenex(table: Table, text: &[u8], made: &mut [u8], out: &mut [u8]) -> Answer
-    ensures { λ r. ⌜ (published house ≤ length (now (made .entry)) → (f : Formula) → Rule (now (text .entry)) table f → ShowsTree pnf-to-snf f (now (out .entry)) r (now (out .exit))) ⌝ }
+fn of_prenex(
+    nodes: &[u64; Table::WEIGHT],
+    used: usize,
+    text: &[u8],
+    made: &mut [u8],
+    out: &mut [u8],
+) -> Answer
+    requires { ⌜ length (now nodes) ≡ house .weight ⌝ }
+    ensures { λ r. ⌜ (published house ≤ length (now (made .entry)) → (f : Formula) → Rule (now (text .entry)) (as-table (now (nodes .entry)) used) f → ShowsTree pnf-to-snf f (now (out .entry)) r (now (out .exit))) ⌝ }
 {
-    let used = table.used;
-    if !is_prenex(shape_of(&table.nodes, used)) {
+    if !is_prenex(shape_of(nodes, used)) {
         return Answer::Shape;
     }
-    if has_hash(&table.nodes, used, text, made) {
+    if has_hash(nodes, used, text, made) {
         return Answer::Hash;
     }
-    let halves = split(table);
-    skolem_stage(Last::Form, halves.prefix, halves.matrix, text, made, 0, out)
+    let mut matrix = [0u64; Table::WEIGHT];
+    let halves = split(nodes, used, &mut matrix);
+    skolem_stage(
+        Last::Form,
+        nodes,
+        halves.prefix,
+        &matrix,
+        halves.matrix,
+        text,
+        made,
+        0,
+        out,
+    )
 }
 
 // Stages 4 and 5 of a rule in Skolem form, with refusal 4 before them.
 fn of_skolem<'a>(
     conjunctive: bool,
-    table: Table,
+    nodes: &[u64; Table::WEIGHT],
+    used: usize,
     text: &'a [u8],
     made: &'a [u8],
     out: &mut [u8],
 ) -> Answer
-    ensures { λ r. ⌜ ((f : Formula) → Rule (now (text .entry)) table f → Answered (of-skolem conjunctive f) (now (out .entry)) r (now (out .exit))) ⌝ }
+    requires { ⌜ length (now nodes) ≡ house .weight ⌝ }
+    ensures { λ r. ⌜ ((f : Formula) → Rule (now (text .entry)) (as-table (now (nodes .entry)) used) f → Answered (of-skolem conjunctive f) (now (out .entry)) r (now (out .exit))) ⌝ }
 {
-    let used = table.used;
-    match shape_of(&table.nodes, used) {
+    match shape_of(nodes, used) {
         Shape::Other => Answer::Shape,
         Shape::Prenex => Answer::Shape,
         Shape::Skolem => {
-            let halves = split(table);
-            clausal(conjunctive, halves.matrix, text, made, out)
+            let mut matrix = [0u64; Table::WEIGHT];
+            split(nodes, used, &mut matrix);
+            clausal(conjunctive, &matrix, text, made, out)
         }
     }
 }
@@ -290,22 +390,24 @@ fn of_skolem<'a>(
 // The stages that a conversion passes.
 pub(crate) fn staged(
     which: Conversion,
-    table: Table,
+    nodes: &[u64; Table::WEIGHT],
+    used: usize,
     text: &[u8],
     made: &mut [u8],
     out: &mut [u8],
 ) -> Answer
-    ensures { λ r. ⌜ (published house ≤ length (now (made .entry)) → (f : Formula) → Rule (now (text .entry)) table f → ShowsTree (named which) f (now (out .entry)) r (now (out .exit))) ⌝ }
+    requires { ⌜ length (now nodes) ≡ house .weight ⌝ }
+    ensures { λ r. ⌜ (published house ≤ length (now (made .entry)) → (f : Formula) → Rule (now (text .entry)) (as-table (now (nodes .entry)) used) f → ShowsTree (named which) f (now (out .entry)) r (now (out .exit))) ⌝ }
 {
     match which {
-        Conversion::Simplify => simplified(table, text, made, out),
-        Conversion::Nnf => negated(table, text, made, out),
-        Conversion::Pnf => prenexed(table, text, made, out),
-        Conversion::Snf => skolemised(Last::Form, table, text, made, out),
-        Conversion::Cnf => skolemised(Last::Conjunctive, table, text, made, out),
-        Conversion::Dnf => skolemised(Last::Disjunctive, table, text, made, out),
-        Conversion::PnfSnf => of_prenex(table, text, made, out),
-        Conversion::SnfCnf => of_skolem(true, table, text, made, out),
-        Conversion::SnfDnf => of_skolem(false, table, text, made, out),
+        Conversion::Simplify => simplified(nodes, used, text, made, out),
+        Conversion::Nnf => negated(nodes, text, made, out),
+        Conversion::Pnf => prenexed(nodes, used, text, made, out),
+        Conversion::Snf => skolemised(Last::Form, nodes, used, text, made, out),
+        Conversion::Cnf => skolemised(Last::Conjunctive, nodes, used, text, made, out),
+        Conversion::Dnf => skolemised(Last::Disjunctive, nodes, used, text, made, out),
+        Conversion::PnfSnf => of_prenex(nodes, used, text, made, out),
+        Conversion::SnfCnf => of_skolem(true, nodes, used, text, made, out),
+        Conversion::SnfDnf => of_skolem(false, nodes, used, text, made, out),
     }
 }

@@ -24,6 +24,7 @@ pub mod Told
 pub mod Once
 pub mod Symbols
 pub mod Drawn
+pub mod OneBlock
 pub mod Skolem
 pub mod Hashes
 pub mod Finite

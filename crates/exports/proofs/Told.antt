@@ -3,9 +3,9 @@ use mathlib.Core.Path.{_≡_, ap, _∙_}
 use Prim.Native.Nat.{ℕ}
 use Rattle.definitions.specs.Bytes.{Bytes}
 use Rattle.definitions.specs.Convert.{Conversion}
-use Rattle.convert.specs.Answers.{meaning, Meets}
+use Rattle.convert.specs.Answers.{meaning, number-of, place-of, Meets}
 use Rattle.convert.specs.declared.Answer.{Answer}
-use Rattle.exports.specs.Calls.{number-of, place-of, Calls}
+use Rattle.exports.specs.Calls.{Calls}
 
 pub told
     : {c : Conversion} {text out work out′ work′ : Bytes} {r : Answer} {number place : ℕ}

@@ -4,17 +4,8 @@ use Prim.Native.Nat.{ℕ}
 use lib.ListN.{length}
 use Rattle.definitions.specs.Bytes.{Bytes}
 use Rattle.definitions.specs.Limits.{house}
-use Rattle.definitions.specs.Convert.{Conversion, Answer, accepted, not-given, answer, out-after, work-after}
-
--- 0 where a text is given; no refusal has that number
-abbrev pub number-of : Answer → ℕ
-number-of (accepted n) = 0
-number-of (not-given number place) = number
-
--- the text's length, or the refusal's place
-abbrev pub place-of : Answer → ℕ
-place-of (accepted n) = n
-place-of (not-given number place) = place
+use Rattle.definitions.specs.Convert.{Conversion, answer, out-after, work-after}
+use Rattle.convert.specs.Answers.{number-of, place-of}
 
 pub record Calls (c : Conversion) (text out work : Bytes) (number place : ℕ) (out′ work′ : Bytes) : Type 0 where
   pub numbers : number ≡ number-of (answer house c text (length out) (length work))

@@ -1,45 +1,8 @@
 // The nine conversions for programs in C and Rust. Each returns the refusal's number, or 0; place then holds its place, or the text's length.
-use convert::Answer;
-ghost use mathlib.Core.Path.{_≡_};
+use convert::number_of;
+use convert::place_of;
 ghost use Rattle.definitions.specs.Convert.{to-simplified, to-nnf, to-pnf, to-snf, to-cnf, to-dnf, pnf-to-snf, snf-to-cnf, snf-to-dnf};
-ghost use Rattle.convert.specs.Answers.{meaning};
-ghost use Rattle.exports.specs.Calls.{number-of, place-of, Calls};
-
-// The refusal's number, 0 where there is a text.
-fn number_of(answer: Answer) -> u64
-    ensures { λ r. ⌜ r ≡ number-of (meaning answer) ⌝ }
-{
-    match answer {
-        Answer::Length(_) => 0,
-        Answer::Room => 1,
-        Answer::Malformed(_) => 2,
-        Answer::Large(_) => 3,
-        Answer::Shape => 4,
-        Answer::Hash => 5,
-        Answer::Name(_) => 6,
-        Answer::Weight(_) => 7,
-        Answer::Clauses => 8,
-        Answer::Work => 9,
-    }
-}
-
-// The text's length, or the refusal's line, stage or 0.
-fn place_of(answer: Answer) -> usize
-    ensures { λ r. ⌜ r ≡ place-of (meaning answer) ⌝ }
-{
-    match answer {
-        Answer::Length(n) => n,
-        Answer::Room => 0,
-        Answer::Malformed(line) => line,
-        Answer::Large(line) => line,
-        Answer::Shape => 0,
-        Answer::Hash => 0,
-        Answer::Name(stage) => stage,
-        Answer::Weight(stage) => stage,
-        Answer::Clauses => 5,
-        Answer::Work => 0,
-    }
-}
+ghost use Rattle.exports.specs.Calls.{Calls};
 
 #[no_mangle]
 pub extern "C" fn wasileko_simplify(

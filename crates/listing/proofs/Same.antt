@@ -86,17 +86,16 @@ module _ (T M : Bytes) (S store : List ℕ) (distinct : ℕ) (table : List ℕ) 
   unfolding set-text listing
   set-same index e = rw (sym (length-map index (part store)) ∙ same-length e, clauses-same index e)
 
-pub listing-same : {T M : Bytes} {S : List ℕ} {s : Set} {cs : List Clause} → Denotes T M S s cs
-    → set-text T M S (s .atoms) (s .literals) (take (s .count) (s .clauses)) ≡ listing cs
-listing-same {T} {M} {S} {s} d =
-    set-same T M S (s .literals) (s .distinct) (s .atoms) (d .atoms) (d .few) (d .spelled) (take (s .count) (s .clauses)) (d .listed)
+pub listing-same : {T M : Bytes} {S A L X : List ℕ} {s : Set} {cs : List Clause} → Denotes T M S A L X s cs
+    → set-text T M S A L (take (s .count) X) ≡ listing cs
+listing-same {T} {M} {S} {A} {L} {X} {s} d = set-same T M S L (s .distinct) A (d .atoms) (d .few) (d .spelled) (take (s .count) X) (d .listed)
 
-module _ {T M : Bytes} {S : List ℕ} {s : Set} {o : Bytes} {r : Written} (index : List ℕ) (e : index ≡ take (s .count) (s .clauses))
-    (m : Measured (set-text T M S (s .atoms) (s .literals) index) (length o) r) where
-  pub not-listed : r ≡ NoRoom → Lists T M S s o o NoRoom
+module _ {T M : Bytes} {S A L X : List ℕ} {s : Set} {o : Bytes} {r : Written} (index : List ℕ) (e : index ≡ take (s .count) X)
+    (m : Measured (set-text T M S A L index) (length o) r) where
+  pub not-listed : r ≡ NoRoom → Lists T M S A L X s o o NoRoom
   not-listed q = record { listed = λ cs d. not-written (rw (e, listing-same d) at m) q; kept = λ z. refl }
 
-  pub all-listed : {n k : ℕ} {o₁ : Bytes} → r ≡ Length n → Wrote o 0 (set-text T M S (s .atoms) (s .literals) index) o₁ k → Lists T M S s o o₁ (Length n)
+  pub all-listed : {n k : ℕ} {o₁ : Bytes} → r ≡ Length n → Wrote o 0 (set-text T M S A L index) o₁ k → Lists T M S A L X s o o₁ (Length n)
   all-listed {n} q w =
       record { listed = λ cs d. all-written (rw (e, listing-same d) at m) q (rw (e, listing-same d) at w); kept = λ z. absurd (never z) }
     where

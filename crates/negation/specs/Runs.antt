@@ -1,15 +1,14 @@
 -- What a run over two tables does: it reads a stretch of the source S from `at` on, and writes behind the first `used` words of the table
 -- O. Words count by what they stand for: `d` decodes a word to its token, over whatever rule text and made names.
 use Prim.Native.Nat.{ℕ, _+_, _<_, _≤_}
-use mathlib.Core.Bool.{Bool, true, false, cond}
+use mathlib.Core.Bool.{Bool, true, false}
 use mathlib.Core.Path.{_≡_}
 use mathlib.Core.List.{List, _++_, map}
-use lib.Dec.{eqb}
 use lib.ListN.{length, take, drop}
 use Rattle.definitions.specs.Limits.{house}
 use Rattle.definitions.specs.Syntax.{Formula}
 use Rattle.definitions.specs.Negation.{nnf, push-not}
-use Rattle.text.specs.Words.{Token, var-token, sign}
+use Rattle.text.specs.Words.{Token}
 use Rattle.negation.specs.declared.Went.{Went}
 
 -- how a run ends that finds some tokens and then `rest`: they are read and o is written, or the table has no room for o
@@ -31,11 +30,6 @@ pub record Fit (O : List ℕ) (used : ℕ) : Type 0 where
 pub record Safe (least : ℕ) (r : Went) (O′ : List ℕ) : Type 0 where
   pub fit : Fit O′ (r .used)
   pub forth : r .stopped ≡ false → (least ≤ r .next) × (r .next ≤ house .weight)
-
--- how many terms stand behind a term's token
-abbrev pub behind : Token → ℕ
-behind (var-token x) = 0
-behind (sign kind count name) = cond (eqb kind 11) count 0
 
 -- the negation form of a formula, or of its negation where the sign says so
 abbrev pub signed : Bool → Formula → Formula

@@ -24,8 +24,9 @@ ghost use Rattle.definitions.specs.Bytes.{Bytes};
 ghost use Rattle.definitions.specs.Limits.{house};
 ghost use Rattle.definitions.specs.Syntax.{Name, Quant, Formula, Terms, count as count-terms};
 ghost use Rattle.definitions.specs.Negation.{flip, nnf as nnf-of, push-not as push-not-of};
-ghost use Rattle.text.specs.Words.{token, sign, block-kind, var-token, code, terms-code, count-of};
-ghost use Rattle.negation.specs.Runs.{Fit, Safe, Runs, behind, signed};
+ghost use Rattle.text.specs.Words.{token, sign, block-kind, var-token, behind, code, terms-code, count-of};
+ghost use Rattle.negation.specs.Runs.{Fit, Safe, Runs, signed};
+ghost use Rattle.negation.specs.declared.Stage.the-variants.{Full};
 ghost use Rattle.negation.specs.Stage.{Negated};
 
 // How far a run came: the next word to read, how many words the table has, and whether it stopped for want of room. It also stops where
@@ -372,28 +373,39 @@ pub enum Stage {
     Full,
 }
 
-// A stage's table, and how it ended.
+// How many words the stage wrote, and how it ended.
 pub struct Staged {
-    pub table: Table,
+    pub used: usize,
     pub fate: Stage,
 }
 
-// The formula of a table in negation form: of ¬(P(x) ⇔ Q(y)) it makes (P(x) ∧ ¬Q(y)) ∨ (¬P(x) ∧ Q(y)). `Full` where the form has more
-// words than a table. Of a table that holds no formula nothing is said but that the count stays in the table.
-pub fn negation_form(table: Table) -> Staged
-    ensures { λ r. ⌜ Negated table r ⌝ }
+// No form.
+fn full() -> Staged
+    ensures { λ r. ⌜ r ≡ record { used = 0; fate = Full } ⌝ }
 {
-    let mut out = Table::empty();
-    let went = nnf(&table.nodes, 0, &mut out.nodes, 0);
-    if went.stopped {
-        return Staged {
-            table: out,
-            fate: Stage::Full,
-        };
-    }
-    out.used = went.used;
     Staged {
-        table: out,
+        used: 0,
+        fate: Stage::Full,
+    }
+}
+
+// The negation form of the formula in the first of these nodes, written to out: of ¬(P(x) ⇔ Q(y)) it makes (P(x) ∧ ¬Q(y)) ∨ (¬P(x) ∧ Q(y)).
+// `Full` where the form has more words than a table. Of nodes that hold no formula nothing is said but that the count stays in the table.
+pub fn negation_form(nodes: &[u64; Table::WEIGHT], out: &mut [u64; Table::WEIGHT]) -> Staged
+    ensures { λ r. ⌜ Negated (now (nodes .entry)) (now (out .entry)) (now (out .exit)) r ⌝ }
+{
+    if !Table::is_whole(nodes) {
+        return full();
+    }
+    if !Table::is_whole(out) {
+        return full();
+    }
+    let went = nnf(nodes, 0, out, 0);
+    if went.stopped {
+        return full();
+    }
+    Staged {
+        used: went.used,
         fate: Stage::Made,
     }
 }

@@ -10,12 +10,12 @@ use lib.Seq.{slice, slice-empty, take-suc-set, take-append-seam}
 use Rattle.definitions.specs.Bytes.{Bytes}
 use Rattle.definitions.specs.Laws.Bools.{clash}
 use Rattle.text.specs.Words.{Token, is-made, token, tokens}
+use Rattle.text.specs.WordLaws.{map-drop}
 use Rattle.prenex.specs.Tables.{Known, AllKnown}
 use Rattle.prenex.specs.Writing.{Plain, Reads, Extends, Appends, written, no-room}
 use Rattle.prenex.proofs.Splices.{part, slice-more}
 use Rattle.prenex.proofs.Words.{tokens-at, tokens-set}
 use Rattle.prenex.proofs.Putting.{set-known}
-use Rattle.prenex.proofs.Streams.{tokens-drop}
 
 -- what a word of the rule text stands for does not depend on the made names
 pub plain-token : (T M N : Bytes) (w : ℕ) → is-made w ≡ false → token T M w ≡ token T N w
@@ -51,7 +51,7 @@ module _ {n : ℕ} {W : List ℕ} {used : ℕ} (size : length W ≡ 1024) where
 -- what was read is a run of the source
 pub read-run : {T : Bytes} {S : List ℕ} {end at : ℕ} {l rest : List Token} → Reads T S end at l rest → slice at (at + length l) (tokens T [] S) ≡ l
 read-run {T} {S} {end} {at} {l} {rest} r =
-    sym (part (length l) at (tokens T [] S)) ∙ ap (take (length l)) (sym (tokens-drop (token T []) at S) ∙ r .stream) ∙ take-append-seam l rest
+    sym (part (length l) at (tokens T [] S)) ∙ ap (take (length l)) (sym (map-drop (token T []) at S) ∙ r .stream) ∙ take-append-seam l rest
 
 pub read-bound : {T : Bytes} {S : List ℕ} {end at : ℕ} {l rest : List Token} → length S ≡ 1024 → Reads T S end at l rest → 0 < length l → at + length l ≤ 1024
 read-bound {T} {S} {end} {at} {l} {rest} s r h = omega (arith, simp (length-map, length-drop, length-append) at (ap length (r .stream)))

@@ -13,13 +13,14 @@ use Rattle.definitions.specs.Names.{mem}
 use Rattle.definitions.specs.Prenex.{longest}
 use Rattle.definitions.specs.Laws.Bools.{clash}
 use Rattle.text.specs.Words.{Token, var-token, sign, kind-of, spell, token, tokens}
+use Rattle.text.specs.WordLaws.{variable-word, other-word}
 use Rattle.text.specs.Prefixes.{names}
 use Rattle.prenex.specs.Walk.{Side, behind, new-name, renamed, walk}
 use Rattle.prenex.specs.Tables.{Ready}
 use Rattle.prenex.specs.Renaming.{splice, Bounds, over, Spot, Renames, RenamesAt, Walks, apart-side}
 use Rattle.text.specs.PrefixLaws.{names-append}
 use Rattle.prenex.proofs.Splices.{slice-more, slice-set, slice-end, as-splice, beside-kept, splice-take, splice-drop, splice-slice}
-use Rattle.prenex.proofs.Words.{token-var, token-sign, tokens-at}
+use Rattle.prenex.proofs.Words.{tokens-at}
 use Rattle.prenex.proofs.Place.{put-length}
 
 behind-behind : (a b : List Token) (s : Side) → behind a (behind b s) ≡ behind (a ++ b) s
@@ -100,7 +101,7 @@ module _ (T : Bytes) (first : ℕ) {M : Bytes} {P W : List ℕ} {last high from 
     }
       where
         next : walk Q N (names (slice low at P̂)) (slice at last P̂) (slice from to Ŵ) ≡ behind (token T M (getD P′ at 0) ∷ []) (walk Q N [] (slice (at + 1) last P̂) (slice from to Ŵ))
-        next = rw (head, token-sign T M (getD P′ at 0) n)
+        next = rw (head, other-word T M (getD P′ at 0) n)
 
         run : slice first (at + 1) P̂ ≡ slice first at P̂ ++ (token T M (getD P′ at 0) ∷ [])
         run = slice-more first at P̂ (token T M 0) (omega (arith, g .lower, g .block)) (omega (arith, b .mine, b .prefix, sized)) ∙ rw (tokens-at T M P′ at)
@@ -136,7 +137,7 @@ module _ (T : Bytes) (first : ℕ) {M : Bytes} {P W : List ℕ} {last high from 
 
       next : walk Q N S (slice at last P̂) m ≡ behind (var-token w ∷ []) (walk Q N (S ++ (w ∷ [])) rest (renamed Q N x w rest m))
       unfolding walk
-      next = rw (head, token-var T M (getD P′ at 0) v)
+      next = rw (head, variable-word T M (getD P′ at 0) v)
 
       whole : apart-side T M P W first last high from to other end ≡ behind (slice first at P̂ ++ (var-token w ∷ [])) (walk Q N (S ++ (w ∷ [])) rest (renamed Q N x w rest m))
       whole = g .goes ∙ ap (behind (slice first at P̂)) next ∙ behind-behind (slice first at P̂) (var-token w ∷ []) _

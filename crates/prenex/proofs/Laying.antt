@@ -12,9 +12,10 @@ use Rattle.definitions.specs.Bytes.{Bytes}
 use Rattle.definitions.specs.Syntax.{Name}
 use Rattle.definitions.specs.Laws.Bools.{by-cases, clash}
 use Rattle.text.specs.Words.{Token, var-token, kind-of, spell, tokens}
+use Rattle.text.specs.WordLaws.{variable-word}
 use Rattle.prenex.specs.Tables.{slot-word, padded, Slot, Known, AllKnown, Places}
 use Rattle.prenex.specs.Writing.{Between, Lays, text-name}
-use Rattle.prenex.proofs.Words.{token-var, tokens-kept}
+use Rattle.prenex.proofs.Words.{tokens-kept}
 use Rattle.prenex.proofs.Putting.{set-known}
 use Rattle.prenex.proofs.Growing.{slot-kind, slot-length, slot-start, slot-spell}
 use Rattle.prenex.proofs.Appending.{one-written}
@@ -124,7 +125,7 @@ module _ (M : Bytes) (at : ℕ) (x : Name) (room : 25 * at + 25 ≤ length M) (s
     pub laid-named : take (at + 1) (tokens T N (set P at w)) ≡ take at (tokens T M P) ++ (var-token x ∷ [])
     laid-named =
         one-written T N P at w (omega (arith, places .size))
-        ∙ ap₂ (λ (a : List Token) (t : Token). take at a ++ (t ∷ [])) (tokens-kept T N M (25 * at) laid-before P (places .known)) (token-var T N w w-kind ∙ ap var-token (laid-spell T below))
+        ∙ ap₂ (λ (a : List Token) (t : Token). take at a ++ (t ∷ [])) (tokens-kept T N M (25 * at) laid-before P (places .known)) (variable-word T N w w-kind ∙ ap var-token (laid-spell T below))
 
 -- what `variable` says, where there is room for the name and where there is none
 pub lays : (T M : Bytes) (P : List ℕ) (at v n : ℕ) {N P′ : List ℕ} → Places M P at → at < 1024 → n ≡ length (text-name T v) → n < 25

@@ -16,6 +16,7 @@ use Rattle.definitions.specs.Laws.Bools.{by-cases, clash}
 use Rattle.text.specs.declared.table.Table.{Table}
 use Rattle.text.specs.Tables.{Holds}
 use Rattle.text.specs.Words.{Token, is-made, kind-of, spell, token, tokens, code}
+use Rattle.text.specs.WordLaws.{variable-word, other-word}
 use Rattle.text.specs.Prefixes.{names}
 use Rattle.prenex.specs.Tables.{AllKnown}
 use Rattle.prenex.specs.Writing.{Plain, Reads}
@@ -23,7 +24,7 @@ use Rattle.prenex.specs.Outward.{Begins}
 use Rattle.prenex.specs.Stage.{Judges}
 use Rattle.prenex.specs.declared.Fate.the-variants.{Made, Long}
 use Rattle.prenex.proofs.Splices.{slice-none}
-use Rattle.prenex.proofs.Words.{token-var, token-sign, tokens-at}
+use Rattle.prenex.proofs.Words.{tokens-at}
 use Rattle.prenex.proofs.Appending.{plain-token}
 
 module _ (T M : Bytes) (W : List ℕ) (used i : ℕ) (s : length W ≡ 1024) (u : used ≤ 1024)
@@ -34,18 +35,18 @@ module _ (T M : Bytes) (W : List ℕ) (used i : ℕ) (s : length W ≡ 1024) (u 
 
     pub found-long : kind-of (getD W i 0) ≡ 12 → 24 < length (spell T M (getD W i 0)) → true ≡ ltb 24 (longest (names (take used (tokens T M W))))
     unfolding names longest
-    found-long v l = sym (begun ∙ rw (first, token-var T M (getD W i 0) v) (lt-ltb 24 (max (length (spell T M (getD W i 0))) (longest (names (slice (i + 1) used (tokens T M W))))) (omega arith)))
+    found-long v l = sym (begun ∙ rw (first, variable-word T M (getD W i 0) v) (lt-ltb 24 (max (length (spell T M (getD W i 0))) (longest (names (slice (i + 1) used (tokens T M W))))) (omega arith)))
 
     pub passed-name : kind-of (getD W i 0) ≡ 12 → length (spell T M (getD W i 0)) ≤ 24 → ltb 24 (longest (names (take used (tokens T M W)))) ≡ ltb 24 (longest (names (slice (i + 1) used (tokens T M W))))
     unfolding names longest
-    passed-name v l = begun ∙ rw (first, token-var T M (getD W i 0) v) (go (length (spell T M (getD W i 0))) (longest (names (slice (i + 1) used (tokens T M W)))) l)
+    passed-name v l = begun ∙ rw (first, variable-word T M (getD W i 0) v) (go (length (spell T M (getD W i 0))) (longest (names (slice (i + 1) used (tokens T M W)))) l)
       where
         go : (a b : ℕ) → a ≤ 24 → ltb 24 (max a b) ≡ ltb 24 b
         go a b l = by-cases (ltb 24 b) (λ t. lt-ltb 24 (max a b) (omega (arith, ltb-true 24 b t)) ∙ sym t) (λ f. le-ltb 24 (max a b) (omega (arith, ltb-false 24 b f)) ∙ sym f)
 
     pub passed-other : (kind-of (getD W i 0) ≡ 12 → ⊥) → ltb 24 (longest (names (take used (tokens T M W)))) ≡ ltb 24 (longest (names (slice (i + 1) used (tokens T M W))))
     unfolding names
-    passed-other v = begun ∙ rw (first, token-sign T M (getD W i 0) v)
+    passed-other v = begun ∙ rw (first, other-word T M (getD W i 0) v)
 
   pub none-long : used ≤ i → false ≡ ltb 24 (longest (names (take used (tokens T M W))))
   unfolding names longest

@@ -9,7 +9,6 @@ pub mod Growing
 pub mod Place
 pub mod Goes
 pub mod Joins
-pub mod Streams
 pub mod TermEnds
 pub mod Weighing
 pub mod Appending
@@ -19,6 +18,7 @@ pub mod Grown
 pub mod Composing
 pub mod Nodes
 pub mod Walking
+pub mod Sides
 pub mod Heads
 pub mod Sizes
 pub mod Lengths

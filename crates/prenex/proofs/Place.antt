@@ -16,13 +16,14 @@ use Rattle.definitions.specs.Prenex.{fresh}
 use Rattle.definitions.specs.Laws.Bools.{by-cases, clash}
 use Rattle.definitions.specs.Laws.Sets.{same-eq}
 use Rattle.text.specs.Words.{Token, var-token, sign, kind-of, size-of, start-of, spell, token, tokens}
+use Rattle.text.specs.WordLaws.{variable-word}
 use Rattle.text.specs.Prefixes.{names}
 use Rattle.prenex.specs.Walk.{put, is-free, reach, new-name}
 use Rattle.prenex.specs.Tables.{Slot, Slots, Known, AllKnown, Ready}
 use Rattle.prenex.specs.Renaming.{splice, all-names, Named, Bounds, Spot, RenamesAt}
 use Rattle.text.specs.PrefixLaws.{names-append}
 use Rattle.prenex.proofs.Splices.{slice-append, three-parts, splice-length}
-use Rattle.prenex.proofs.Words.{token-var, tokens-at, tokens-set}
+use Rattle.prenex.proofs.Words.{tokens-at, tokens-set}
 use Rattle.prenex.proofs.Putting.{set-known}
 use Rattle.prenex.proofs.Growing.{slot-kind, slot-length, slot-start}
 
@@ -92,7 +93,7 @@ module _ (T : Bytes) {M : Bytes} {P W : List ℕ} {low at last high from to othe
         names-append,
         slice-cons at high P̂ (token T M 0) (omega (arith, b .mine, spot .before)) (omega (arith, sized, b .prefix)),
         tokens-at T M P at,
-        token-var T M (getD P at 0) (spot .var),
+        variable-word T M (getD P at 0) (spot .var),
         add-one at,
         slice-append (suc at) last high P̂ (spot .before) (b .mine) (omega (arith, sized, b .prefix)),
         names-append,
@@ -114,7 +115,7 @@ module _ (T : Bytes) {M : Bytes} {P W : List ℕ} {low at last high from to othe
   pub stays : is-free Q N x ≡ false → RenamesAt T M P high W low at last high from to other end P W x false
   stays f = record {
     ready = ready;
-    here = λ z. rw f (sym (set-getD P̂ at (token T M 0)) ∙ ap (set P̂ at) (tokens-at T M P at ∙ token-var T M (getD P at 0) (spot .var)));
+    here = λ z. rw f (sym (set-getD P̂ at (token T M 0)) ∙ ap (set P̂ at) (tokens-at T M P at ∙ variable-word T M (getD P at 0) (spot .var)));
     there = λ z. rw f (sym (three-parts from to Ŵ (b .run)) ∙ ap (splice from to Ŵ) as-before);
     long = λ z. clash z refl;
   }
@@ -161,7 +162,7 @@ module _ (T : Bytes) {M : Bytes} {P W : List ℕ} {low at last high from to othe
         matrix-size = sym (length-map W′ (token T M)) ∙ ap length e ∙ splice-length from to Ŵ (cond (mem x (names rest)) m (map (put x (spell T M r)) m)) (b .run) (omega (arith, long, b .matrix)) fitted ∙ long;
         matrix-known = k (25 * high) known (ready .matrix-known);
       };
-      here = λ z. tokens-set T M P at r ∙ ap (set P̂ at) (token-var T M r new-kind ∙ ap var-token name);
+      here = λ z. tokens-set T M P at r ∙ ap (set P̂ at) (variable-word T M r new-kind ∙ ap var-token name);
       there = λ z. e ∙ ap (λ (y : Name). splice from to Ŵ (cond (mem x (names rest)) m (map (put x y) m))) name;
       long = λ z. clash z refl;
     }

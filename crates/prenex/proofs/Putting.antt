@@ -8,11 +8,12 @@ use lib.ListN.{length, getD, set, length-set, length-map, take-append-drop}
 use lib.Seq.{slice, slice-empty, length-slice}
 use Rattle.definitions.specs.Bytes.{Bytes, same}
 use Rattle.text.specs.Words.{Token, var-token, kind-of, spell, token, tokens}
+use Rattle.text.specs.WordLaws.{variable-word, other-word}
 use Rattle.prenex.specs.Walk.{put}
 use Rattle.prenex.specs.Tables.{Known, AllKnown}
 use Rattle.prenex.specs.Renaming.{splice}
 use Rattle.prenex.proofs.Splices.{slice-more, splice-at, splice-next, splice-stay}
-use Rattle.prenex.proofs.Words.{token-var, token-sign, tokens-at, tokens-set}
+use Rattle.prenex.proofs.Words.{tokens-at, tokens-set}
 
 -- a word written that is known
 pub set-known : (n i v : ℕ) (W : List ℕ) → Known n v → AllKnown n W → AllKnown n (set W i v)
@@ -63,21 +64,21 @@ module _ {T M : Bytes} {W : List ℕ} {from old new i : ℕ} {X : List ℕ} (p :
 
   hit : kind-of (getD X i 0) ≡ 12 → same (spell T M old) (spell T M (getD X i 0)) ≡ true → g (getD Ŵ i (token T M 0)) ≡ var-token (spell T M new)
   unfolding put
-  hit v s = rw (← here, token-var T M (getD X i 0) v, s)
+  hit v s = rw (← here, variable-word T M (getD X i 0) v, s)
 
   miss : kind-of (getD X i 0) ≡ 12 → same (spell T M old) (spell T M (getD X i 0)) ≡ false → g (getD Ŵ i (token T M 0)) ≡ getD Ŵ i (token T M 0)
   unfolding put
-  miss v s = rw (← here, token-var T M (getD X i 0) v, s)
+  miss v s = rw (← here, variable-word T M (getD X i 0) v, s)
 
   no-var : (kind-of (getD X i 0) ≡ 12 → ⊥) → g (getD Ŵ i (token T M 0)) ≡ getD Ŵ i (token T M 0)
   unfolding put
-  no-var v = rw (← here, token-sign T M (getD X i 0) v)
+  no-var v = rw (← here, other-word T M (getD X i 0) v)
 
   pub puts-hit : kind-of new ≡ 12 → kind-of (getD X i 0) ≡ 12 → same (spell T M old) (spell T M (getD X i 0)) ≡ true → Puts T M W from old new (i + 1) (set X i new)
   puts-hit nv v s = record {
     lower = omega (arith, p .lower);
     size = simp length-set (p .size);
-    words = tokens-set T M X i new ∙ ap₂ (λ (l : List Token) (t : Token). set l i t) (p .words) (token-var T M new nv ∙ sym (hit v s))
+    words = tokens-set T M X i new ∙ ap₂ (λ (l : List Token) (t : Token). set l i t) (p .words) (variable-word T M new nv ∙ sym (hit v s))
         ∙ splice-next from i Ŵ (map g (slice from i Ŵ)) (p .lower) fits even (token T M 0) (g (getD Ŵ i (token T M 0))) below ∙ rw more;
     known = λ n a b. set-known n i new X a (p .known n a b);
   }

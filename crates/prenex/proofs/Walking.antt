@@ -2,15 +2,18 @@
 use mathlib.Core.Path.{_≡_, refl, sym, ap, ap₂, subst, _∙_}
 use mathlib.Core.Bool.{Bool, true, not}
 use mathlib.Core.List.{List, [], _∷_, _++_, map, append-assoc, append-nil}
-use Prim.Native.Nat.{ℕ, zero, suc, _+_, _*_, _≤_, _<_}
+use Prim.Native.Nat.{ℕ, _+_, _*_, _≤_, _<_}
 use native.Mathlib.Omega.{arith}
 use lib.ListN.{length, take, drop, getD, length-append, length-map}
 use Rattle.definitions.specs.Bytes.{Bytes}
-use Rattle.definitions.specs.Syntax.{Name, Op, and, or, imp, iff, Quant, all, ex, Formula, neg, bin, blk}
+use Rattle.definitions.specs.Syntax.{Name, Op, and, or, imp, iff, Quant, Formula, neg, bin, blk}
 use Rattle.definitions.specs.Prenex.{Prenex, merge, outward, no-block}
 use Rattle.definitions.specs.Laws.Prenex.{outward-no-block}
 use Rattle.text.specs.Words.{Token, var-token, sign, token, tokens, count-of, op-kind, block-kind, code}
+use Rattle.text.specs.WordLaws.{sign-word}
 use Rattle.text.specs.Weights.{words-weight}
+use Rattle.text.specs.Shapes.{shaped, shaped-constant, shaped-block, no-shape}
+use Rattle.text.specs.Streams.{At, behind-part, at-node, no-node}
 use Rattle.text.specs.Prefixes.{prefix-code}
 use Rattle.prenex.specs.Walk.{Side, turning, left-sign, each, coded}
 use Rattle.prenex.specs.Tables.{Ready}
@@ -21,7 +24,6 @@ use Rattle.prenex.specs.declared.weight.Weighed.{Weighed}
 use Rattle.prenex.specs.declared.write.Went.{Went}
 use Rattle.prenex.proofs.Merged.{merge-prefix, merge-matrix, turned-flips}
 use Rattle.prenex.proofs.Words.{tokens-kept}
-use Rattle.prenex.proofs.Streams.{At, head, node, block-node, no-kind, no-node, behind-part, count-told}
 use Rattle.prenex.proofs.Weighing.{behind-formula}
 use Rattle.prenex.proofs.Laying.{known-more}
 use Rattle.prenex.proofs.Blocking.{between-none}
@@ -60,11 +62,11 @@ module _ (T : Bytes) {M : Bytes} {P : List ℕ} {n : ℕ} {W : List ℕ} {used :
 
   -- there is no formula
   pub runs-nowhere : {at : ℕ} → 1024 ≤ at → Runs T M P n W used S at flip M P W (record { prefix = n; matrix = used; fate = 1 })
-  runs-nowhere {at} h = record { safe = still; does = λ end f rest pl r. absurd (no-node T [] S at f rest (b .source) h (r .stream)) }
+  runs-nowhere {at} h = record { safe = still; does = λ end f rest pl r. absurd (no-node T [] S at f rest (omega (arith, b .source, h)) (r .stream)) }
 
   module _ {at k : ℕ} (h : At S at k) where
     pub runs-no-kind : 10 < k → Runs T M P n W used S at flip M P W (record { prefix = n; matrix = used; fate = 1 })
-    runs-no-kind g = record { safe = still; does = λ end f rest pl r. no-kind T [] (λ f rest. End T M P n W used M P W (record { prefix = n; matrix = used; fate = 1 }) (coded flip (outward f))) k h g f rest (r .stream) }
+    runs-no-kind g = record { safe = still; does = λ end f rest pl r. at-node T [] (λ f rest. End T M P n W used M P W (record { prefix = n; matrix = used; fate = 1 }) (coded flip (outward f))) h (no-shape g) f rest (r .stream) }
 
     -- an atom is its own form
     module _ {W′ : List ℕ} {r : Went} (x : Extends n W used W′ r) (a : (end : ℕ) (f : Formula) (rest : List Token) → Plain S end → Reads T S end at (code f) rest → Appends T W used W′ r (code f)) where
@@ -76,20 +78,15 @@ module _ (T : Bytes) {M : Bytes} {P : List ℕ} {n : ℕ} {W : List ℕ} {used :
 
       pub runs-constant : k ≤ 1 → Runs T M P n W used S at flip M P W′ r
       unfolding outward each prefix-code
-      runs-constant g = own (go k h g)
-        where
-          go : (k : ℕ) → At S at k → k ≤ 1 → (f : Formula) (rest : List Token) → tokens T [] (drop at S) ≡ code f ++ rest → Own f rest
-          go zero h l = node T [] Own 0 h (λ rest w x. refl)
-          go (suc zero) h l = node T [] Own 1 h (λ rest w x. refl)
-          go (suc (suc k)) h l = absurd (omega arith)
+      runs-constant g = own (at-node T [] Own h (shaped-constant g (λ rest w x. refl) (λ rest w x. refl)))
 
       pub runs-equation : k ≡ 7 → Runs T M P n W used S at flip M P W′ r
       unfolding outward each prefix-code
-      runs-equation g = own (node T [] Own 7 (record { size = h .size; below = h .below; kind = h .kind ∙ g }) (λ t u rest w x. refl))
+      runs-equation g = own (at-node T [] Own h (shaped 7 g (λ t u rest w x. refl)))
 
       pub runs-predicate : k ≡ 10 → Runs T M P n W used S at flip M P W′ r
       unfolding outward each prefix-code
-      runs-predicate g = own (node T [] Own 10 (record { size = h .size; below = h .below; kind = h .kind ∙ g }) (λ p ts rest w x. refl))
+      runs-predicate g = own (at-node T [] Own h (shaped 10 g (λ p ts l rest w x. refl)))
 
     -- what the parts read, one behind the other
     abbrev Gives : Bytes → List ℕ → List ℕ → Went → ℕ → Formula → List Token → Type 0
@@ -101,21 +98,18 @@ module _ (T : Bytes) {M : Bytes} {P : List ℕ} {n : ℕ} {W : List ℕ} {used :
 
     -- a negation: its word, and its part with the other sign
     module _ {W₁ : List ℕ} {w : Went} (z : k ≡ 2) (x : Extends n W used W₁ w) (p : Appends T W used W₁ w (token T [] 2 ∷ [])) where
-      there : At S at 2
-      there = record { size = h .size; below = h .below; kind = h .kind ∙ z }
-
       negated : (a : Formula) → topped (sign 2 0 []) (coded (not flip) (outward a)) ≡ coded flip (outward (neg a))
       unfolding outward code
       negated a = ap (λ (l : List Token). record { prefix = l; matrix = sign 2 0 [] ∷ code ((outward a) .matrix) }) (ap prefix-code (sym (turned-flips flip ((outward a) .prefix))))
 
       pub not-stops : (w .fate ≡ 0 → ⊥) → Runs T M P n W used S at flip M P W₁ w
-      not-stops f = given (safe-put (b .ready) x) (λ end pl. node T [] (Gives M P W₁ w end) 2 there
-          (λ a rest t y i. end-as (negated a) (topped-stops M P p (coded (not flip) (outward a)) f)))
+      not-stops f = given (safe-put (b .ready) x) (λ end pl. at-node T [] (Gives M P W₁ w end) h
+          (shaped 2 z (λ a rest t y i. end-as (negated a) (topped-stops M P p (coded (not flip) (outward a)) f))))
 
       pub runs-not : {M′ : Bytes} {P′ W′ : List ℕ} {r : Went} → w .fate ≡ 0 → Runs T M P n W₁ (w .matrix) S (at + 1) (not flip) M′ P′ W′ r → Runs T M P n W used S at flip M′ P′ W′ r
       unfolding code
-      runs-not {M′} {P′} {W′} {r} f g = given (safe-on (between-none M n) (x .more) (g .safe)) (λ end pl. node T [] (Gives M′ P′ W′ r end) 2 there
-          (λ a rest t y i. end-as (negated a) (topped-ends M P p f (b .ready .matrix-size) (x .size) (b .room) (x .room) (g .does end a rest pl (record { stream = y; inside = omega arith })))))
+      runs-not {M′} {P′} {W′} {r} f g = given (safe-on (between-none M n) (x .more) (g .safe)) (λ end pl. at-node T [] (Gives M′ P′ W′ r end) h
+          (shaped 2 z (λ a rest t y i. end-as (negated a) (topped-ends M P p f (b .ready .matrix-size) (x .size) (b .room) (x .room) (g .does end a rest pl (record { stream = y; inside = omega arith }))))))
 
     -- the two parts of a binary node
     module _ {e : Weighed} {M′ : Bytes} {P′ W′ : List ℕ} {r : Went} (v : Weighs S (at + 1) e) (s : Safe M n used M′ P′ W′ r) where
@@ -134,26 +128,25 @@ module _ (T : Bytes) {M : Bytes} {P : List ℕ} {n : ℕ} {W : List ℕ} {used :
 
       pub runs-and : k ≡ 3 → RunsBoth T M P n W used S (at + 1) (e .next) flip M′ P′ W′ r (over and) → Runs T M P n W used S at flip M′ P′ W′ r
       unfolding outward code
-      runs-and z g = given s (λ end pl. node T [] (Gives M′ P′ W′ r end) 3 (record { size = h .size; below = h .below; kind = h .kind ∙ z }) (λ a c rest t y i. both (over and) g end pl a c rest y (omega arith)))
+      runs-and z g = given s (λ end pl. at-node T [] (Gives M′ P′ W′ r end) h (shaped 3 z (λ a c rest t y i. both (over and) g end pl a c rest y (omega arith))))
 
       pub runs-or : k ≡ 4 → RunsBoth T M P n W used S (at + 1) (e .next) flip M′ P′ W′ r (over or) → Runs T M P n W used S at flip M′ P′ W′ r
       unfolding outward code
-      runs-or z g = given s (λ end pl. node T [] (Gives M′ P′ W′ r end) 4 (record { size = h .size; below = h .below; kind = h .kind ∙ z }) (λ a c rest t y i. both (over or) g end pl a c rest y (omega arith)))
+      runs-or z g = given s (λ end pl. at-node T [] (Gives M′ P′ W′ r end) h (shaped 4 z (λ a c rest t y i. both (over or) g end pl a c rest y (omega arith))))
 
       pub runs-imp : k ≡ 5 → RunsBoth T M P n W used S (at + 1) (e .next) flip M′ P′ W′ r (over imp) → Runs T M P n W used S at flip M′ P′ W′ r
       unfolding outward code
-      runs-imp z g = given s (λ end pl. node T [] (Gives M′ P′ W′ r end) 5 (record { size = h .size; below = h .below; kind = h .kind ∙ z }) (λ a c rest t y i. both (over imp) g end pl a c rest y (omega arith)))
+      runs-imp z g = given s (λ end pl. at-node T [] (Gives M′ P′ W′ r end) h (shaped 5 z (λ a c rest t y i. both (over imp) g end pl a c rest y (omega arith))))
 
       pub runs-iff : k ≡ 6 → RunsBoth T M P n W used S (at + 1) (e .next) flip M′ P′ W′ r both-ways → Runs T M P n W used S at flip M′ P′ W′ r
       unfolding outward code
-      runs-iff z g = given s (λ end pl. node T [] (Gives M′ P′ W′ r end) 6 (record { size = h .size; below = h .below; kind = h .kind ∙ z }) (λ a c rest t y i. both both-ways g end pl a c rest y (omega arith)))
+      runs-iff z g = given s (λ end pl. at-node T [] (Gives M′ P′ W′ r end) h (shaped 6 z (λ a c rest t y i. both both-ways g end pl a c rest y (omega arith))))
 
     -- a block: its head and variables, and its body
     module _ {c t : ℕ} {M₁ : Bytes} {P₁ : List ℕ} {w : Went} (low : 7 < k) (high : k ≤ 9) (count : c ≡ count-of (getD S at 0)) (turn : Turned (getD S at 0) flip t)
         (g : Blocks T M P n used S (at + 1) c t M₁ P₁ w) where
       long : (q : Quant) (vs : List Name) → token T [] (getD S at 0) ≡ sign (block-kind q) (length vs) [] → length vs ≡ c
-      long all vs e = sym (count ∙ count-told T [] (getD S at 0) (omega arith) e)
-      long ex vs e = sym (count ∙ count-told T [] (getD S at 0) (omega arith) e)
+      long q vs e = sym (count ∙ sign-word T [] (getD S at 0) e .1)
 
       blocked : (q : Quant) (vs : List Name) (a : Formula) → behind-block (sign (block-kind (turning flip q)) (length vs) []) vs (coded flip (outward a)) ≡ coded flip (outward (blk q vs a))
       unfolding outward each prefix-code
@@ -180,14 +173,14 @@ module _ (T : Bytes) {M : Bytes} {P : List ℕ} {n : ℕ} {W : List ℕ} {used :
 
       pub blocks-stop : (w .fate ≡ 0 → ⊥) → Runs T M P n W used S at flip M₁ P₁ W w
       blocks-stop f = given (record { ready = still-ready; between = g .between; more = omega (arith, g .matrix); room = omega (arith, g .matrix, b .room) })
-          (λ end pl. block-node T [] (Gives M₁ P₁ W w end) k h low high
-          (λ q vs a rest e y i. end-as (blocked q vs a) (block-stops (ends end pl q vs a rest e y i) (coded flip (outward a)) f)))
+          (λ end pl. at-node T [] (Gives M₁ P₁ W w end) h
+          (shaped-block low high (λ q z vs l a rest e y i. end-as (blocked q vs a) (block-stops (ends end pl q vs a rest e y i) (coded flip (outward a)) f))))
 
       pub runs-block : {M′ : Bytes} {P′ W′ : List ℕ} {r : Went} → w .fate ≡ 0 → Runs T M₁ P₁ (w .prefix) W used S (at + 1 + c) flip M′ P′ W′ r → Runs T M P n W used S at flip M′ P′ W′ r
       runs-block {M′} {P′} {W′} {r} f j = given (safe-on (g .between) (omega arith) (j .safe))
-          (λ end pl. block-node T [] (Gives M′ P′ W′ r end) k h low high
-          (λ q vs a rest e y i. end-as (blocked q vs a) (block-ends (ends end pl q vs a rest e y i) f (b .ready .places .size) (g .places .size) (b .ready .places .used) (g .places .used) (W-known (b .ready))
-          (j .does end a rest pl (body end q vs a rest e y i)))))
+          (λ end pl. at-node T [] (Gives M′ P′ W′ r end) h
+          (shaped-block low high (λ q z vs l a rest e y i. end-as (blocked q vs a) (block-ends (ends end pl q vs a rest e y i) f (b .ready .places .size) (g .places .size) (b .ready .places .used) (g .places .used) (W-known (b .ready))
+          (j .does end a rest pl (body end q vs a rest e y i))))))
         where
           body : (end : ℕ) (q : Quant) (vs : List Name) (a : Formula) (rest : List Token) → token T [] (getD S at 0) ≡ sign (block-kind q) (length vs) []
               → tokens T [] (drop (at + 1) S) ≡ (map var-token vs ++ code a) ++ rest → at + length (code (blk q vs a)) ≤ end → Reads T S end (at + 1 + c) (code a) rest

@@ -1,10 +1,10 @@
 -- The stage as a whole: the weight first, and then the walk with its names.
 use mathlib.Core.Path.{_≡_, refl, sym, ap, ap₂, _∙_}
-use mathlib.Core.Bool.{false}
-use mathlib.Core.List.{List, [], _∷_}
-use Prim.Native.Nat.{ℕ, zero, suc, _*_, _≤_, _<_}
+use mathlib.Core.Bool.{Bool, true, false, not}
+use mathlib.Core.List.{List, []}
+use Prim.Native.Nat.{ℕ, _*_, _≤_, _<_}
 use native.Mathlib.Omega.{arith}
-use lib.Dec.{leb}
+use lib.Dec.{eqb, leb}
 use lib.ListN.{length, take, drop, replicate}
 use borrow.Author.Tests.{leb-true, leb-false}
 use Rattle.definitions.specs.Bytes.{Bytes}
@@ -13,8 +13,10 @@ use Rattle.definitions.specs.Prenex.{formula, outward}
 use Rattle.definitions.specs.Laws.Bools.{by-cases}
 use Rattle.definitions.specs.Laws.Prenex.{outward-no-block}
 use Rattle.text.specs.declared.table.Table.{Table}
-use Rattle.text.specs.Tables.{Holds}
+use Rattle.text.specs.Tables.{as-table, Holds}
+use Rattle.text.specs.Wholes.{never-short}
 use Rattle.text.specs.Words.{Token, token, tokens}
+use Rattle.text.specs.WordLaws.{map-take}
 use Rattle.prenex.specs.Walk.{coded}
 use Rattle.prenex.specs.Weights.{clamped, Weighs}
 use Rattle.prenex.specs.Writing.{Plain, widest-name, End, done, full, long}
@@ -29,11 +31,6 @@ use Rattle.prenex.proofs.Words.{tokens-kept}
 use Rattle.prenex.proofs.Lengths.{whole-read}
 use Rattle.prenex.proofs.Sizes.{coded-size, held-prefix, form-weight, form-long, form-short}
 
-tokens-take : (T M : Bytes) (n : ℕ) (W : List ℕ) → tokens T M (take n W) ≡ take n (tokens T M W)
-tokens-take T M zero W = refl
-tokens-take T M (suc n) [] = refl
-tokens-take T M (suc n) (w ∷ W) = ap (token T M w ∷_) (tokens-take T M n W)
-
 abbrev empty : Table
 empty = record { nodes = replicate 1024 0; used = 0 }
 
@@ -41,24 +38,37 @@ abbrev result : List ℕ → List ℕ → Went → Fate → Prenexed
 result P W r j = record { prefix = record { nodes = P; used = r .prefix }; matrix = record { nodes = W; used = r .matrix }; made = 25 * r .prefix; fate = j }
 
 -- too few bytes were lent for the made names
-pub no-slots : (T M : Bytes) (table : Table) → length M < 25600 → Prenexes T M table M (record { prefix = empty; matrix = empty; made = 0; fate = Unfit })
-no-slots T M table h = record {
+pub no-slots : (T M : Bytes) (S : List ℕ) → length M < 25600 → Prenexes T M S M (record { prefix = empty; matrix = empty; made = 0; fate = Unfit })
+no-slots T M S h = record {
   size = refl;
   count = omega arith;
   behind = refl;
   prefix-room = omega arith;
   matrix-room = omega arith;
   unfit = λ z. refl;
-  form = λ z N f k p. absurd (omega arith);
+  form = λ l z. absurd (omega arith);
 }
 
-module _ {T : Bytes} (table : Table) {e : Weighed} (w : Weighs (table .nodes) 0 e) where
-  -- what was weighed is what the form weighs
-  weighed : {N : Bytes} {f : Formula} → Holds T N table f → Plain (table .nodes) (table .used) → e .weight ≡ clamped (weight (formula (outward f)))
-  weighed {N} {f} h p =
-      w .weight-is T [] f (tokens T [] (drop (table .used) (table .nodes))) (whole-read h p .stream) ∙ ap clamped (sym (form-weight f))
+-- no words were lent: that does not come up
+pub no-words : (T M : Bytes) (S : List ℕ) {b : Bool} → b ≡ eqb (length S) 1024 → not b ≡ true
+    → Prenexes T M S M (record { prefix = empty; matrix = empty; made = 0; fate = Unfit })
+no-words T M S e h = record {
+  size = refl;
+  count = omega arith;
+  behind = refl;
+  prefix-room = omega arith;
+  matrix-room = omega arith;
+  unfit = λ z. refl;
+  form = never-short S e h;
+}
 
-  pub too-heavy : {M : Bytes} → 25600 ≤ length M → 1024 < e .weight → Prenexes T M table M (record { prefix = empty; matrix = empty; made = 0; fate = Heavy })
+module _ {T : Bytes} (S : List ℕ) {e : Weighed} (w : Weighs S 0 e) where
+  -- what was weighed is what the form weighs
+  weighed : {N : Bytes} {n : ℕ} {f : Formula} → Holds T N (as-table S n) f → Plain S n → e .weight ≡ clamped (weight (formula (outward f)))
+  weighed {N} {n} {f} h p =
+      w .weight-is T [] f (tokens T [] (drop n S)) (whole-read h p .stream) ∙ ap clamped (sym (form-weight f))
+
+  pub too-heavy : {M : Bytes} → 25600 ≤ length M → 1024 < e .weight → Prenexes T M S M (record { prefix = empty; matrix = empty; made = 0; fate = Heavy })
   too-heavy {M} r h = record {
     size = refl;
     count = omega arith;
@@ -66,11 +76,11 @@ module _ {T : Bytes} (table : Table) {e : Weighed} (w : Weighs (table .nodes) 0 
     prefix-room = omega arith;
     matrix-room = omega arith;
     unfit = λ z. absurd (omega arith);
-    form = λ z N f k p. heavy refl (omega (arith, weighed k p));
+    form = λ l z N n f k p. heavy refl (omega (arith, weighed k p));
   }
 
   module _ {M M′ : Bytes} {P′ W′ : List ℕ} {r : Went} {j : Fate} (room : 25600 ≤ length M) (light : e .weight ≤ 1024)
-      (runs : Runs T M (replicate 1024 0) 0 (replicate 1024 0) 0 (table .nodes) 0 false M′ P′ W′ r)
+      (runs : Runs T M (replicate 1024 0) 0 (replicate 1024 0) 0 S 0 false M′ P′ W′ r)
       (judge : Judges (r .fate) (take (r .prefix) (tokens T M′ P′)) (take (r .matrix) (tokens T M′ W′)) j) where
     -- how the walk over the rule ended decides
     outcome : (f : Formula) → weight (formula (outward f)) ≤ 1024 → End T M (replicate 1024 0) 0 (replicate 1024 0) 0 M′ P′ W′ r (coded false (outward f)) → Outcome T M′ (result P′ W′ r j) (outward f)
@@ -83,8 +93,8 @@ module _ {T : Bytes} (table : Table) {e : Weighed} (w : Weighs (table .nodes) 0 
         (record {
           prefix-room = runs .safe .ready .places .used;
           matrix-room = runs .safe .room;
-          blocks = λ N k. tokens-take T N (r .prefix) P′ ∙ ap (take (r .prefix)) (tokens-kept T N M′ (25 * r .prefix) k P′ (runs .safe .ready .places .known)) ∙ p ∙ held-prefix (outward f);
-          body = λ N k. tokens-take T N (r .matrix) W′ ∙ ap (take (r .matrix)) (tokens-kept T N M′ (25 * r .prefix) k W′ (runs .safe .ready .matrix-known)) ∙ m;
+          blocks = λ N k. map-take (token T N) (r .prefix) P′ ∙ ap (take (r .prefix)) (tokens-kept T N M′ (25 * r .prefix) k P′ (runs .safe .ready .places .known)) ∙ p ∙ held-prefix (outward f);
+          body = λ N k. map-take (token T N) (r .matrix) W′ ∙ ap (take (r .matrix)) (tokens-kept T N M′ (25 * r .prefix) k W′ (runs .safe .ready .matrix-known)) ∙ m;
           flat = outward-no-block f;
         }))
         (λ g. let s = leb-false (widest-name (coded false (outward f))) 24 g in
@@ -93,7 +103,7 @@ module _ {T : Bytes} (table : Table) {e : Weighed} (w : Weighs (table .nodes) 0 
         same : widest-name (coded false (outward f)) ≡ widest-name (record { prefix = take (r .prefix) (tokens T M′ P′); matrix = take (r .matrix) (tokens T M′ W′) })
         same = ap₂ (λ (a b : List Token). widest-name (record { prefix = a; matrix = b })) (sym p) (sym m)
 
-    pub walked : Prenexes T M table M′ (result P′ W′ r j)
+    pub walked : Prenexes T M S M′ (result P′ W′ r j)
     walked = record {
       size = runs .safe .between .size;
       count = omega (arith, runs .safe .ready .places .used);
@@ -101,6 +111,5 @@ module _ {T : Bytes} (table : Table) {e : Weighed} (w : Weighs (table .nodes) 0 
       prefix-room = runs .safe .ready .places .used;
       matrix-room = runs .safe .room;
       unfit = λ z. absurd (omega arith);
-      form = λ z N f h p.
-          outcome f (omega (arith, weighed h p)) (runs .does (table .used) f (tokens T [] (drop (table .used) (table .nodes))) p (whole-read h p));
+      form = λ l z N n f h p. outcome f (omega (arith, weighed h p)) (runs .does n f (tokens T [] (drop n S)) p (whole-read h p));
     }

@@ -4,7 +4,6 @@ use mathlib.Core.Bool.{Bool, true, false, cond, _||_}
 use mathlib.Core.List.{List, [], _∷_, _++_}
 use Prim.Native.Nat.{ℕ, zero, suc, _+_, _≤_, _<_}
 use native.Mathlib.Numerals.{add-one}
-use borrow.Author.Tests.{eq-eqb, ne-eqb}
 use lib.Dec.{eqb}
 use lib.ListN.{length, take, drop, getD, set, length-map, List·getD-map}
 use lib.Seq.{slice, slice-cons, take-take}
@@ -14,17 +13,12 @@ use Rattle.definitions.specs.Names.{mem}
 use Rattle.definitions.specs.Laws.Bools.{by-cases}
 use Rattle.definitions.specs.Laws.Sets.{mem-append}
 use Rattle.text.specs.Words.{Token, var-token, sign, is-made, kind-of, count-of, size-of, start-of, spell, token, tokens}
+use Rattle.text.specs.WordLaws.{variable-word, other-word}
 use Rattle.text.specs.Prefixes.{names}
 use Rattle.prenex.specs.Tables.{Known, AllKnown}
 use Rattle.prenex.proofs.Splices.{slice-none, part}
 
 module _ (T M : Bytes) where
-  pub token-var : (w : ℕ) → kind-of w ≡ 12 → token T M w ≡ var-token (spell T M w)
-  token-var w e = rw (eq-eqb (kind-of w) 12 e)
-
-  pub token-sign : (w : ℕ) → (kind-of w ≡ 12 → ⊥) → token T M w ≡ sign (kind-of w) (count-of w) (spell T M w)
-  token-sign w e = rw (ne-eqb (kind-of w) 12 e)
-
   pub tokens-at : (W : List ℕ) (i : ℕ) → getD (tokens T M W) i (token T M 0) ≡ token T M (getD W i 0)
   tokens-at W i = List·getD-map (token T M) W i 0
 
@@ -41,11 +35,11 @@ module _ (T M : Bytes) where
     pub mem-var : kind-of (getD W i 0) ≡ 12
         → mem x (names (slice i t (tokens T M W))) ≡ (same x (spell T M (getD W i 0)) || mem x (names (slice (i + 1) t (tokens T M W))))
     unfolding names mem
-    mem-var e = rw (first, token-var (getD W i 0) e)
+    mem-var e = rw (first, variable-word T M (getD W i 0) e)
 
     pub mem-other : (kind-of (getD W i 0) ≡ 12 → ⊥) → mem x (names (slice i t (tokens T M W))) ≡ mem x (names (slice (i + 1) t (tokens T M W)))
     unfolding names mem
-    mem-other e = rw (first, token-sign (getD W i 0) e)
+    mem-other e = rw (first, other-word T M (getD W i 0) e)
 
   pub mem-none : (W : List ℕ) (x : Name) (i t : ℕ) → t ≤ i → mem x (names (slice i t (tokens T M W))) ≡ false
   unfolding names mem

@@ -1,5 +1,5 @@
--- What stage 2 makes of a table: prefix and matrix of the prenex form, or refusal 7 or 6.
--- It asks for a table that holds a formula whose words all point into the rule text, and for made names with a slot for each word of a prefix.
+-- What stage 2 makes of the words S: prefix and matrix of the prenex form, or refusal 7 or 6.
+-- It asks for words that are a formula's and all point into the rule text, and for made names with a slot for each word of a prefix.
 use mathlib.Core.Bool.{true, false}
 use mathlib.Core.List.{List}
 use mathlib.Core.Path.{_≡_}
@@ -10,8 +10,7 @@ use Rattle.definitions.specs.Limits.{house}
 use Rattle.definitions.specs.Syntax.{Formula, weight}
 use Rattle.definitions.specs.Prenex.{Prenex, formula, outward}
 use Rattle.definitions.specs.Convert.{too-long}
-use Rattle.text.specs.declared.table.Table.{Table}
-use Rattle.text.specs.Tables.{Holds}
+use Rattle.text.specs.Tables.{as-table, Holds}
 use Rattle.text.specs.Words.{Token}
 use Rattle.text.specs.Prefixes.{Apart}
 use Rattle.prenex.specs.Tables.{slot-size}
@@ -38,13 +37,13 @@ pub record Judges (fate : ℕ) (p m : List Token) (r : Fate) : Type 0 where
   pub long : fate ≡ 0 → house .name < widest-name (record { prefix = p; matrix = m }) → r ≡ Long
   pub made : fate ≡ 0 → widest-name (record { prefix = p; matrix = m }) ≤ house .name → r ≡ Made
 
-pub record Prenexes (T M : Bytes) (table : Table) (M′ : Bytes) (r : Prenexed) : Type 0 where
-  -- whatever the table holds: the made names are the first r .made bytes of what was lent for them, and all else is as it was
+pub record Prenexes (T M : Bytes) (S : List ℕ) (M′ : Bytes) (r : Prenexed) : Type 0 where
+  -- whatever the words are: the made names are the first r .made bytes of what was lent for them, and all else is as it was
   pub size : length M′ ≡ length M
   pub count : r .made ≤ made-size
   pub behind : drop (r .made) M′ ≡ drop (r .made) M
   pub prefix-room : r .prefix .used ≤ house .weight
   pub matrix-room : r .matrix .used ≤ house .weight
   pub unfit : length M < made-size → r .fate ≡ Unfit
-  -- a formula of the table
-  pub form : made-size ≤ length M → (N : Bytes) (f : Formula) → Holds T N table f → Plain (table .nodes) (table .used) → Outcome T M′ r (outward f)
+  -- a formula that the first n of them are
+  pub form : length S ≡ house .weight → made-size ≤ length M → (N : Bytes) (n : ℕ) (f : Formula) → Holds T N (as-table S n) f → Plain S n → Outcome T M′ r (outward f)

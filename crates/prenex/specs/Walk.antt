@@ -1,6 +1,7 @@
 -- Prenex form (source document 000, stage 2): at a binary node the whole left prefix comes out before the right one. A block's variable is
 -- renamed when it is free in the other side; the new name is none of the block's, either side's (bound or free), nor one already made here.
 -- Here a side is what its tables hold: the tokens of its prefix and of its matrix. Its variables are renamed in one walk over its prefix.
+-- Two sides put together so are the definitions' (`merge-prefix`, `merge-matrix` in proofs/Merged.antt).
 use mathlib.Core.Bool.{Bool, not, _&&_, cond}
 use mathlib.Core.List.{List, [], _∷_, _++_, map}
 use Rattle.definitions.specs.Bytes.{same}

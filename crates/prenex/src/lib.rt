@@ -83,13 +83,21 @@ fn judged<'a>(
     Fate::Made
 }
 
-// The prenex form of the rule in a table: its blocks outward, in reading order, and renamed where they have to be.
+// The prenex form of the rule in the first of these nodes: its blocks outward, in reading order, and renamed where they have to be.
 // The weight is known first (7), then the names (6). Made names go to `made`, 25 bytes for each word of the prefix.
-pub fn prenex(table: Table, text: &[u8], made: &mut [u8]) -> Prenexed
-    ensures { λ r. ⌜ Prenexes (now (text .entry)) (now (made .entry)) table (now (made .exit)) r ⌝ }
+pub fn prenex(nodes: &[u64; Table::WEIGHT], text: &[u8], made: &mut [u8]) -> Prenexed
+    ensures { λ r. ⌜ Prenexes (now (text .entry)) (now (made .entry)) (now (nodes .entry)) (now (made .exit)) r ⌝ }
 {
     let mut prefix = Table::empty();
     let mut matrix = Table::empty();
+    if !Table::is_whole(nodes) {
+        return Prenexed {
+            prefix: prefix,
+            matrix: matrix,
+            made: 0,
+            fate: Fate::Unfit,
+        };
+    }
     if made.len() < 25 * Table::WEIGHT {
         return Prenexed {
             prefix: prefix,
@@ -98,7 +106,7 @@ pub fn prenex(table: Table, text: &[u8], made: &mut [u8]) -> Prenexed
             fate: Fate::Unfit,
         };
     }
-    let rule = weigh(&table.nodes, 0);
+    let rule = weigh(nodes, 0);
     if rule.weight > Table::WEIGHT {
         return Prenexed {
             prefix: prefix,
@@ -110,7 +118,7 @@ pub fn prenex(table: Table, text: &[u8], made: &mut [u8]) -> Prenexed
     let went = walk(
         text,
         made,
-        &table.nodes,
+        nodes,
         0,
         false,
         &mut prefix.nodes,

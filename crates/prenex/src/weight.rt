@@ -13,9 +13,8 @@ ghost use Prim.Native.Nat.{_+_, _-_, _≤_, _<_};
 ghost use lib.ListN.{length};
 ghost use Rattle.definitions.specs.Bytes.{Bytes};
 ghost use Rattle.definitions.specs.Limits.{house};
-ghost use Rattle.text.specs.Words.{token, count-of};
+ghost use Rattle.text.specs.Words.{token, behind, count-of};
 ghost use Rattle.prenex.specs.Weights.{clamped, nowhere, Ends, Weighs};
-ghost use Rattle.prenex.specs.Streams.{behind};
 
 // Past every place of a table: where there is no formula.
 const NOWHERE: usize = 2000;

@@ -1,4 +1,5 @@
 pub mod Fields
+pub mod Keywords
 pub mod Lines
 pub mod Pieces
 pub mod Runs

@@ -9,10 +9,10 @@ use lib.Seq.{slice, length-slice, getD-take, take-suc-set}
 use Rattle.definitions.specs.Bytes.{Bytes}
 use Rattle.definitions.specs.Limits.{house}
 use Rattle.definitions.specs.Syntax.{Terms, count}
-use Rattle.text.specs.Words.{Token, token, tokens, terms-code}
+use Rattle.text.specs.Words.{Token, token, tokens, behind, terms-code}
+use Rattle.text.specs.Arguments.{first, some-terms, no-terms}
 use Rattle.substitution.specs.Runs.{Keeps, Safe}
 use Rattle.substitution.specs.Slices.{slice-next}
-use Rattle.substitution.specs.Arguments.{behind, first, no-terms}
 use Rattle.substitution.specs.Keeping.{unmade-word, keeps-all, keeps-put, keeps-on}
 use Rattle.simplify.specs.Parts.{Copied}
 
@@ -23,9 +23,6 @@ keeps-below S i end h k = record { size = k .size; kept = k .kept; more = k .mor
 -- a run that copies whatever terms are due
 pub record Due (T M : Bytes) (S : List ℕ) (at end due : ℕ) (O : List ℕ) (used : ℕ) (O′ : List ℕ) (next used′ : ℕ) : Type 0 where
   pub terms : (ts : Terms) → count ts ≡ due → Copied T M S at end O used O′ next used′ (terms-code ts)
-
-some-terms : (ts : Terms) → 0 < count ts → 0 < length (terms-code ts)
-some-terms ts h = let f = first ts h in rw (f .split) (omega arith)
 
 -- the loop: it stands inside the stretch, and whoever copies the terms that are left copies all
 pub record Looping (S : List ℕ) (at end due : ℕ) (O : List ℕ) (used : ℕ) (O′ : List ℕ) (next have left : ℕ) : Type 0 where
@@ -71,4 +68,5 @@ module _ {S : List ℕ} {at end due : ℕ} {O : List ℕ} {used : ℕ} where
         })
 
     pub loop-ends : (T M : Bytes) → left ≡ 0 → Due T M S at end due O used O′ next have
-    loop-ends T M z = l .on T M O′ next have (record { terms = λ ts e. rw (no-terms ts (e ∙ z) .0) (record { ends = λ s o rest x. (x, sym (append-nil (tokens T M (take have O′)))) }) })
+    unfolding terms-code
+    loop-ends T M z = l .on T M O′ next have (record { terms = λ ts e. rw (no-terms ts (e ∙ z)) (record { ends = λ s o rest x. (x, sym (append-nil (tokens T M (take have O′)))) }) })

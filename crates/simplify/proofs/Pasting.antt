@@ -12,9 +12,9 @@ use Rattle.definitions.specs.Limits.{house}
 use Rattle.definitions.specs.Syntax.{Name, Quant, Formula, blk}
 use Rattle.definitions.specs.Simplify.{over-kept}
 use Rattle.text.specs.Words.{Token, var-token, sign, token, tokens, kind-of, count-of, size-of, is-made, code}
+use Rattle.text.specs.WordLaws.{other-word}
+use Rattle.text.specs.Shapes.{block-range}
 use Rattle.substitution.specs.Runs.{Keeps}
-use Rattle.substitution.specs.Nodes.{block-range}
-use Rattle.substitution.specs.Spelled.{other-word}
 use Rattle.substitution.specs.Slices.{slice-put, slice-behind, slice-split, slice-kept}
 use Rattle.substitution.specs.Keeping.{unmade-none, keeps-all, keeps-put, keeps-on, keeps-word}
 use Rattle.simplify.specs.Parts.{Moves, Pastes, Binds}

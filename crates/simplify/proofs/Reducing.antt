@@ -12,11 +12,11 @@ use Rattle.definitions.specs.Syntax.{Name, Op, and, or, imp, iff, Quant, Formul
 use Rattle.definitions.specs.Names.{keep, free}
 use Rattle.definitions.specs.Simplify.{simplify, turn, tidy, over-kept}
 use Rattle.definitions.specs.Laws.Once.{free-once}
-use Rattle.text.specs.Words.{Token, var-token, token, tokens, kind-of, count-of, code, is-made, op-kind, block-kind}
+use Rattle.text.specs.Words.{Token, var-token, token, tokens, kind-of, count-of, code, sides, root, below, is-made, op-kind, block-kind}
+use Rattle.text.specs.Shapes.{code-splits, Shapes, by-shape}
 use Rattle.substitution.specs.Runs.{Within, Lists, Safe as Copies}
 use Rattle.substitution.specs.Slices.{kept-below, kept-twice, slice-next, slice-split, slice-kept, slice-cut}
 use Rattle.substitution.specs.Spelled.{vars-spelled}
-use Rattle.substitution.specs.Nodes.{root, below, sides, code-splits, Shapes, by-shape}
 use Rattle.substitution.specs.Keeping.{unmade-none, unmade-set, keeps-all}
 use Rattle.simplify.specs.Parts.{Becomes, Joins, Binds, Copied, Reduces, Safe}
 use Rattle.simplify.proofs.Moving.{behind-word}
@@ -69,14 +69,14 @@ module _ {S : List ℕ} {at end : ℕ} {O : List ℕ} {used : ℕ} {L : List ℕ
 -- at a node: what is below it
 module _ {T M : Bytes} {S : List ℕ} {at end : ℕ} {O : List ℕ} {used : ℕ} {L O′ : List ℕ} {next used′ : ℕ} where
   pub at-node : at < end → end ≤ house .weight
-      → Shapes (kind-of (getD S at 0)) (count-of (getD S at 0)) (λ f i. token T M (getD S at 0) ≡ root f → Reduces T M S (at + 1) end O used L O′ next used′ i (code (simplify f)))
+      → Shapes (kind-of (getD S at 0)) (count-of (getD S at 0)) (λ f. token T M (getD S at 0) ≡ root f → Reduces T M S (at + 1) end O used L O′ next used′ (below f) (code (simplify f)))
       → (f : Formula) → Reduces T M S at end O used L O′ next used′ (code f) (code (simplify f))
   at-node h g shapes f =
       record {
         ends = λ s o l rest x.
             let y : token T M (getD S at 0) ∷ tokens T M (slice (at + 1) end S) ≡ root f ∷ (below f ++ rest) = sym (ap (tokens T M) (slice-next at end S 0 h (omega arith))) ∙ x ∙ ap (λ (c : List Token). c ++ rest) (code-splits f) in
             let w : token T M (getD S at 0) ≡ root f = cc in
-            by-shape T M (getD S at 0) (λ f i. token T M (getD S at 0) ≡ root f → Reduces T M S (at + 1) end O used L O′ next used′ i (code (simplify f))) shapes f w w .ends s o l rest (cc);
+            by-shape T M (getD S at 0) (λ f. token T M (getD S at 0) ≡ root f → Reduces T M S (at + 1) end O used L O′ next used′ (below f) (code (simplify f))) refl shapes f w w .ends s o l rest (cc);
       }
 
   -- the stretch ends before the tokens do

@@ -10,27 +10,13 @@ use lib.Seq.{slice}
 use Rattle.definitions.specs.Bytes.{Bytes}
 use Rattle.definitions.specs.Syntax.{Op, and, or, imp, iff, Formula, top, bot, pred, eq, neg, bin, blk}
 use Rattle.definitions.specs.Simplify.{is-top, is-bot, turn}
-use Rattle.text.specs.Words.{token, tokens, kind-of, code, op-kind, block-kind}
+use Rattle.text.specs.Words.{token, tokens, kind-of, kind, code, root, below, op-kind}
+use Rattle.text.specs.WordLaws.{kind-is}
+use Rattle.text.specs.Shapes.{code-splits, op-range, block-range}
 use Rattle.substitution.specs.Slices.{slice-next, slice-none}
-use Rattle.substitution.specs.Nodes.{root, below, code-splits, sign-word, op-range, block-range}
 
 abbrev pub root-kind : Formula → ℕ
-root-kind top = 0
-root-kind bot = 1
-root-kind (pred p ts) = 10
-root-kind (eq t u) = 7
-root-kind (neg f) = 2
-root-kind (bin o f g) = op-kind o
-root-kind (blk q vs f) = block-kind q
-
-kind-is : (T M : Bytes) (w : ℕ) (f : Formula) → token T M w ≡ root f → kind-of w ≡ root-kind f
-kind-is T M w top e = sign-word T M w _ _ _ e .0
-kind-is T M w bot e = sign-word T M w _ _ _ e .0
-kind-is T M w (pred p ts) e = sign-word T M w _ _ _ e .0
-kind-is T M w (eq t u) e = sign-word T M w _ _ _ e .0
-kind-is T M w (neg f) e = sign-word T M w _ _ _ e .0
-kind-is T M w (bin o f g) e = sign-word T M w _ _ _ e .0
-kind-is T M w (blk q vs f) e = sign-word T M w _ _ _ e .0
+root-kind f = kind (root f)
 
 -- the first word of a formula, and the tokens behind it
 pub record Rooted (T M : Bytes) (O : List ℕ) (from end : ℕ) (f : Formula) : Type 0 where
@@ -48,7 +34,8 @@ runs-on T M O from end f e = go (decLe end from)
 pub rooted : (T M : Bytes) (O : List ℕ) (from end : ℕ) (f : Formula) → end ≤ length O → tokens T M (slice from end O) ≡ code f → Rooted T M O from end f
 rooted T M O from end f l e =
     let y : token T M (getD O from 0) ∷ tokens T M (slice (from + 1) end O) ≡ root f ∷ below f = sym (ap (tokens T M) (slice-next from end O 0 (runs-on T M O from end f e) l)) ∙ e ∙ code-splits f in
-    record { kind = kind-is T M (getD O from 0) f (cc); behind = cc }
+    let w : token T M (getD O from 0) ≡ root f = cc in
+    record { kind = sym (kind-is T M (getD O from 0)) ∙ ap kind w; behind = cc }
 
 pub top-of : (f : Formula) → root-kind f ≡ 0 → f ≡ top
 top-of top e = refl

@@ -1,4 +1,4 @@
--- A whole table simplified: the run from its start to its end, over an empty table and an empty list.
+-- A whole formula simplified: the run from its first word to its last, with an empty list.
 use mathlib.Core.Path.{_≡_, refl, sym, _∙_}
 use mathlib.Core.Bool.{false}
 use mathlib.Core.List.{List, [], _∷_, append-nil}
@@ -10,7 +10,6 @@ use Rattle.definitions.specs.Limits.{house}
 use Rattle.definitions.specs.Syntax.{Formula}
 use Rattle.definitions.specs.Simplify.{simplify}
 use Rattle.text.specs.Words.{code, is-made}
-use Rattle.text.specs.declared.table.Table.{Table}
 use Rattle.substitution.specs.Runs.{Unmade}
 use Rattle.simplify.specs.Parts.{Reduces, Safe}
 use Rattle.simplify.specs.Stage.{Simplified}
@@ -23,6 +22,9 @@ unmade-zeros n = record { each = go n }
     go (suc n) zero = refl
     go (suc n) (suc i) = go n i
 
+unmade-none : (ws : List ℕ) → Unmade (take 0 ws)
+unmade-none ws = record { each = λ i. refl }
+
 unmade-take : (n : ℕ) (ws : List ℕ) → Unmade ws → Unmade (take n ws)
 unmade-take n ws u = record { each = go n ws (u .each) }
   where
@@ -32,21 +34,21 @@ unmade-take n ws u = record { each = go n ws (u .each) }
     go (suc n) (x ∷ xs) h zero = h zero
     go (suc n) (x ∷ xs) h (suc i) = go n xs (λ j. h (suc j)) i
 
-pub simplified-none : {T M : Bytes} {t : Table} {r : Table} → house .weight < t .used → r ≡ record { nodes = replicate (house .weight) 0; used = 0 } → Simplified T M t r
-simplified-none h e =
-    rw e (record { room = omega arith; form = λ f k. absurd (omega (arith, k .room)); origin = λ u. unmade-take 0 (replicate (house .weight) 0) (unmade-zeros (house .weight)) })
+pub simplified-none : {T M : Bytes} {S O : List ℕ} {n : ℕ} → house .weight < n → Simplified T M S n O O 0
+simplified-none {O = O} h =
+    record { size = refl; room = omega arith; form = λ l o f k. absurd (omega (arith, k .room)); origin = λ u v. unmade-none O }
 
-pub simplified : {T M : Bytes} {t : Table} {e : Table} {L O′ L′ : List ℕ} {next used : ℕ} → t .used ≤ house .weight → length (t .nodes) ≡ house .weight
-    → e ≡ record { nodes = replicate (house .weight) 0; used = 0 } → L ≡ replicate (house .weight) 0
-    → Safe (t .nodes) 0 (t .used) (e .nodes) 0 L O′ L′ next used
-    → ((f : Formula) → Reduces T M (t .nodes) 0 (t .used) (e .nodes) 0 L O′ next used (code f) (code (simplify f)))
-    → Simplified T M t (record { nodes = O′; used = used })
-simplified {e = empty} {L = L} {O′ = O′} {used = used} h n e l s k =
+pub simplified : {T M : Bytes} {S O L O′ L′ : List ℕ} {n next used : ℕ} → n ≤ house .weight → L ≡ replicate (house .weight) 0
+    → Safe S 0 n O 0 L O′ L′ next used
+    → ((f : Formula) → Reduces T M S 0 n O 0 L O′ next used (code f) (code (simplify f)))
+    → Simplified T M S n O O′ used
+simplified {O′ = O′} {used = used} h l s k =
     record {
+      size = s .size;
       room = omega (arith, s .room, s .inside);
-      form = λ f q. record {
+      form = λ n o f q. record {
         room = omega (arith, s .room, s .inside);
-        words = k f .ends n (rw e (length-replicate {A = ℕ} (house .weight) 0)) (rw l (length-replicate {A = ℕ} (house .weight) 0)) [] (q .words ∙ sym (append-nil (code f))) .1;
+        words = k f .ends n o (rw l (length-replicate {A = ℕ} (house .weight) 0)) [] (q .words ∙ sym (append-nil (code f))) .1;
       };
-      origin = λ u. unmade-take used O′ (s .origin u (rw l (unmade-zeros (house .weight))) (rw e (unmade-zeros (house .weight))) .0);
+      origin = λ u v. unmade-take used O′ (s .origin u (rw l (unmade-zeros (house .weight))) v .0);
     }

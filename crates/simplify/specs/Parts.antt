@@ -10,9 +10,8 @@ use Rattle.definitions.specs.Bytes.{Bytes}
 use Rattle.definitions.specs.Limits.{house}
 use Rattle.definitions.specs.Syntax.{Name, Op, and, or, imp, iff, Quant, Formula, top, bot, bin}
 use Rattle.definitions.specs.Simplify.{turn, tidy, over-kept}
-use Rattle.text.specs.Words.{Token, var-token, token, tokens, code, op-kind, block-kind}
+use Rattle.text.specs.Words.{Token, var-token, token, tokens, code, root, op-kind, block-kind}
 use Rattle.substitution.specs.Runs.{Unmade, Keeps}
-use Rattle.substitution.specs.Nodes.{root}
 use Rattle.simplify.specs.declared.Law.{Law}
 use Rattle.simplify.specs.declared.Law.the-variants.{Other, Turned, Top, Bottom}
 

@@ -374,26 +374,21 @@ fn block<'a>(
     }
 }
 
-// The simplified form of a table's formula. A table that holds no formula gives some table.
-pub fn simplify<'a>(table: Table, text: &'a [u8], made: &'a [u8]) -> Table
-    ensures { λ r. ⌜ Simplified (now (text .entry)) (now (made .entry)) table r ⌝ }
+// The simplified form of the formula in the first `used` nodes, written to the front of out; gives how many words it has. Nodes that hold no
+// formula give some words.
+pub fn simplify<'a>(
+    nodes: &[u64; Table::WEIGHT],
+    used: usize,
+    text: &'a [u8],
+    made: &'a [u8],
+    out: &mut [u64; Table::WEIGHT],
+) -> usize
+    ensures { λ r. ⌜ Simplified (now (text .entry)) (now (made .entry)) (now (nodes .entry)) used (now (out .entry)) (now (out .exit)) r ⌝ }
 {
-    let mut out = Table::empty();
-    let end = table.used;
-    if end > Table::WEIGHT {
-        return out;
+    if used > Table::WEIGHT {
+        return 0;
     }
     let mut list = [0u64; Table::WEIGHT];
-    let went = reduce(
-        text,
-        made,
-        &table.nodes,
-        0,
-        end,
-        &mut out.nodes,
-        0,
-        &mut list,
-    );
-    out.used = went.used;
-    out
+    let went = reduce(text, made, nodes, 0, used, out, 0, &mut list);
+    went.used
 }

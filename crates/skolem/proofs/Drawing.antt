@@ -14,6 +14,7 @@ use Rattle.definitions.specs.Limits.{house}
 use Rattle.definitions.specs.Skolem.{Counts, constant-name, function-name}
 use Rattle.definitions.specs.Laws.Bools.{by-cases}
 use Rattle.text.specs.Words.{Token, var-token, sign, token, tokens, count-of}
+use Rattle.text.specs.WordLaws.{other-word}
 use Rattle.skolem.specs.declared.counters.Counters.{Counters}
 use Rattle.skolem.specs.declared.counters.Drawn.{Drawn}
 use Rattle.skolem.specs.declared.heads.Named.{Named}
@@ -21,7 +22,7 @@ use Rattle.skolem.specs.declared.heads.Entitled.{Entitled}
 use Rattle.skolem.specs.Counting.{last-number, above, counts-of}
 use Rattle.skolem.specs.Pass.{entitled, moved, named, drawn-after}
 use Rattle.skolem.specs.Naming.{longest, Grown, Names, Entitles, NamesAll}
-use Rattle.skolem.proofs.WordLaws.{no-variable, slice-one}
+use Rattle.skolem.proofs.WordLaws.{slice-one}
 use Rattle.skolem.proofs.NamingLaws.{grown-none, grown-both}
 
 above-next : (n : ℕ) → n ≤ last-number → above n ≡ suc n
@@ -33,15 +34,15 @@ module _ {M M′ : Bytes} {at word : ℕ} {r : Named} where
       → (T M″ : Bytes) → take (r .at) M″ ≡ take (r .at) M′ → token T M″ (r .word) ≡ sign j (count-of word) s
   head-token j e v n f T M″ t =
       let m = n .made f in
-      no-variable T M″ (r .word) (λ q. v (sym (m .1 ∙ e) ∙ q)) ∙ rw (m .1, e, m .2, m .3 T M″ t)
+      other-word T M″ (r .word) (λ q. v (sym (m .1 ∙ e) ∙ q)) ∙ rw (m .1, e, m .2, m .3 T M″ t)
 
   constant-head : (k : Counters) → word % 16 ≡ 13 → Names M at (constant-name (k .constants)) (k .constants) word M′ r
       → Entitles M at word k M′ (record { word = r .word; at = r .at; counters = record { constants = above (k .constants); functions = k .functions }; fits = r .fits })
   constant-head k e n = record {
     grown = n .grown;
     short = n .short;
-    head = λ f T M″ t. head-token 13 e (λ q. omega arith) n f T M″ t ∙ rw (no-variable T M″ word (λ q. omega arith), e);
-    counters = λ f T M. rw (no-variable T M word (λ q. omega arith), e, above-next (k .constants) (n .made f .0));
+    head = λ f T M″ t. head-token 13 e (λ q. omega arith) n f T M″ t ∙ rw (other-word T M″ word (λ q. omega arith), e);
+    counters = λ f T M. rw (other-word T M word (λ q. omega arith), e, above-next (k .constants) (n .made f .0));
     fits = λ h. n .fits (omega (arith, h .bytes)) (omega (arith, h .near)) (omega (arith, h .constants));
   }
 
@@ -50,8 +51,8 @@ module _ {M M′ : Bytes} {at word : ℕ} {r : Named} where
   function-head k e n = record {
     grown = n .grown;
     short = n .short;
-    head = λ f T M″ t. head-token 11 e (λ q. omega arith) n f T M″ t ∙ rw (no-variable T M″ word (λ q. omega arith), e);
-    counters = λ f T M. rw (no-variable T M word (λ q. omega arith), e, above-next (k .functions) (n .made f .0));
+    head = λ f T M″ t. head-token 11 e (λ q. omega arith) n f T M″ t ∙ rw (other-word T M″ word (λ q. omega arith), e);
+    counters = λ f T M. rw (other-word T M word (λ q. omega arith), e, above-next (k .functions) (n .made f .0));
     fits = λ h. n .fits (omega (arith, h .bytes)) (omega (arith, h .near)) (omega (arith, h .functions));
   }
 

@@ -12,13 +12,14 @@ use Rattle.definitions.specs.Bytes.{Bytes}
 use Rattle.definitions.specs.Limits.{house}
 use Rattle.definitions.specs.Laws.Bools.{clash}
 use Rattle.text.specs.Words.{Token, token, tokens, spell}
+use Rattle.text.specs.WordLaws.{variable-word, other-word, kind-is}
 use Rattle.skolem.specs.declared.matrix.Went.{Went}
 use Rattle.skolem.specs.Pass.{stays, keep, pick, binds, whole, put-in, filled, reach}
 use Rattle.skolem.specs.Filling.{width, Fit, Added, done, over, wide, Adds, Keeps}
 use Rattle.skolem.proofs.Lists.{flat-append}
 use Rattle.skolem.proofs.Found.{reach-append}
 use Rattle.skolem.proofs.Blocks.{keep-append}
-use Rattle.skolem.proofs.WordLaws.{variable, no-variable, kind-is, slice-one}
+use Rattle.skolem.proofs.WordLaws.{slice-one}
 
 width-append : (a b : List ℕ) → width (a ++ b) ≡ max (width a) (width b)
 width-append a b = ap reach (map-append (token [] []) a b) ∙ reach-append (tokens [] [] a) (tokens [] [] b)
@@ -56,7 +57,7 @@ module _ {O : List ℕ} {used room : ℕ} {O₁ : List ℕ} {r : Went} where
 -- One word.
 function-width : (w : ℕ) → w % 16 ≡ 11 → width (w ∷ []) ≡ w / 16 % 64
 unfolding reach
-function-width w e = rw (no-variable [] [] w (λ q. omega arith), e) (omega arith)
+function-width w e = rw (other-word [] [] w (λ q. omega arith), e) (omega arith)
 
 other-width : (w : ℕ) → (w % 16 ≡ 11 → ⊥) → width (w ∷ []) ≡ 0
 unfolding reach
@@ -110,7 +111,7 @@ module _ (F : List ℕ → List ℕ) (joins : (a b : List ℕ) → F (a ++ b) �
 
 -- A head with its arguments.
 arguments-of : (T M : Bytes) (w : ℕ) (g : List ℕ) → w % 16 ≡ 11 → whole (token T M) g w ≡ w ∷ take (w / 16 % 64) g
-arguments-of T M w g e = rw (no-variable T M w (λ q. omega arith), e)
+arguments-of T M w g e = rw (other-word T M w (λ q. omega arith), e)
 
 pub function-whole : (T M : Bytes) (w n : ℕ) (S : List ℕ) → w % 16 ≡ 11 → whole (token T M) (take n S) w ≡ (w ∷ []) ++ take (min (w / 16 % 64) n) S
 function-whole T M w n S e = arguments-of T M w (take n S) e ∙ ap (w ∷_) (twice (w / 16 % 64) n S)
@@ -127,10 +128,10 @@ other-whole T M w g e = rw (kind-is T M w, ne-eqb (w % 16) 11 e)
 -- What a word becomes.
 module _ (T M : Bytes) (g prefix heads : List ℕ) (w : ℕ) where
   pub variable-becomes : w % 16 ≡ 12 → put-in (token T M) g prefix heads w ≡ whole (token T M) g (pick w (map (λ b. binds (spell T M w) (token T M b)) prefix) heads)
-  variable-becomes e = rw (variable T M w e)
+  variable-becomes e = rw (variable-word T M w e)
 
   pub other-becomes : (w % 16 ≡ 12 → ⊥) → put-in (token T M) g prefix heads w ≡ w ∷ []
-  other-becomes e = rw (no-variable T M w e)
+  other-becomes e = rw (other-word T M w e)
 
 -- The head that a variable belongs to.
 module _ (t : ℕ → Bool) (P H : List ℕ) (used : ℕ) (sizes : (length P ≡ house .weight) × (length H ≡ house .weight)) (all : used ≤ house .weight) where
@@ -159,17 +160,17 @@ module _ (O : List ℕ) (n w : ℕ) (size : length O ≡ house .weight) (room : 
   }
 
   pub block-stays : w % 16 ≡ 8 → Keeps O n (w ∷ []) (set O n w) (n + 1)
-  block-stays e = stays-put (rw (no-variable [] [] w (λ q. omega arith), e))
+  block-stays e = stays-put (rw (other-word [] [] w (λ q. omega arith), e))
 
   pub variable-stays : w % 16 ≡ 12 → Keeps O n (w ∷ []) (set O n w) (n + 1)
-  variable-stays e = stays-put (rw (variable [] [] w e))
+  variable-stays e = stays-put (rw (variable-word [] [] w e))
 
   pub no-more-stays : (w % 16 ≡ 8 → ⊥) → (w % 16 ≡ 12 → ⊥) → Keeps O n (w ∷ []) O n
   unfolding keep
   no-more-stays e k = record {
     size = size;
     few = omega arith;
-    words = rw (no-variable [] [] w k, ne-eqb (w % 16) 8 e) (sym (append-nil (take n O)));
+    words = rw (other-word [] [] w k, ne-eqb (w % 16) 8 e) (sym (append-nil (take n O)));
   }
 
 pub keeps-none : (O : List ℕ) → length O ≡ house .weight → Keeps O 0 [] O 0

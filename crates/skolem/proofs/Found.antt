@@ -18,9 +18,10 @@ use Rattle.definitions.specs.Laws.Bools.{by-cases}
 use Rattle.definitions.specs.Laws.Sets.{mem-append, same-eq}
 use Rattle.definitions.specs.Laws.Drawn.{last, put-at, put-else}
 use Rattle.text.specs.Words.{Token, var-token, sign, term-code, terms-code, op-kind, block-kind, code}
+use Rattle.text.specs.WordLaws.{map-take}
 use Rattle.text.specs.Prefixes.{prefix-code}
 use Rattle.skolem.specs.Pass.{most, pick, binds, whole, put-in, filled, reach}
-use Rattle.skolem.proofs.Lists.{flat-same, take-map}
+use Rattle.skolem.proofs.Lists.{flat-same}
 use Rattle.skolem.proofs.OnePass.{on, spread, terms, terms-else, as-vars-code}
 use Rattle.skolem.proofs.Blocks.{final, head-token, block-heads, heads}
 
@@ -168,7 +169,7 @@ whole-stands F (app f ts) (as-fun g rest e) =
     })
   where
     args : length g ≤ 32 → take (length g) (map var-token (take most F)) ≡ map var-token g
-    args s = take-map var-token (length g) (take most F)
+    args s = sym (map-take var-token (length g) (take most F))
         ∙ ap (map var-token) (take-take (length g) most F (omega arith) ∙ ap (take (length g)) e ∙ take-append-seam g rest)
 
 -- What the matrix becomes stands for the matrix of the Skolem form.

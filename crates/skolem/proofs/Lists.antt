@@ -2,8 +2,6 @@
 use mathlib.Core.Path.{_≡_, refl, sym, ap, _∙_}
 use mathlib.Core.Bool.{Bool, true, false, not, _&&_, _||_}
 use mathlib.Core.List.{List, [], _∷_, _++_, map, flatMap, append-assoc}
-use Prim.Native.Nat.{ℕ, zero, suc}
-use lib.ListN.{take, drop}
 use Rattle.definitions.specs.Syntax.{Name}
 use Rattle.definitions.specs.Names.{mem, filter, without}
 use Rattle.definitions.specs.Laws.Bools.{by-cases}
@@ -59,13 +57,3 @@ flat-flat f g (x ∷ l) = flat-append f (g x) (flatMap g l) ∙ rw (flat-flat f 
 pub map-same-id : {A : Type 0} (l : List A) → map (λ a. a) l ≡ l
 map-same-id [] = refl
 map-same-id (a ∷ l) = ap (a ∷_) (map-same-id l)
-
-pub take-map : {A B : Type 0} (f : A → B) (n : ℕ) (l : List A) → take n (map f l) ≡ map f (take n l)
-take-map f zero l = refl
-take-map f (suc n) [] = refl
-take-map f (suc n) (a ∷ l) = ap (f a ∷_) (take-map f n l)
-
-pub drop-map : {A B : Type 0} (f : A → B) (n : ℕ) (l : List A) → drop n (map f l) ≡ map f (drop n l)
-drop-map f zero l = refl
-drop-map f (suc n) [] = refl
-drop-map f (suc n) (a ∷ l) = drop-map f n l

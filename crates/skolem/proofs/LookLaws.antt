@@ -16,14 +16,13 @@ use Rattle.definitions.specs.Prenex.{parted}
 use Rattle.definitions.specs.Skolem.{has-hash, hash-free}
 use Rattle.definitions.specs.Laws.Bools.{by-cases, and-true-right}
 use Rattle.text.specs.Words.{Token, token, tokens, spell, kind-of, code, kind}
+use Rattle.text.specs.WordLaws.{other-word, kind-is, map-take, map-drop}
 use Rattle.text.specs.Prefixes.{prefix-code}
-use Rattle.text.specs.Tables.{Holds}
-use Rattle.text.specs.declared.table.Table.{Table}
+use Rattle.text.specs.Tables.{as-table, Holds}
 use Rattle.skolem.specs.declared.shape.Shape.the-variants.{Skolem, Prenex, Other}
 use Rattle.skolem.specs.Shape.{any, between, blocks-size, hashed, Shaped, Parted}
-use Rattle.skolem.proofs.Lists.{take-map, drop-map}
 use Rattle.skolem.proofs.ShapeLaws.{block-token, exists-token, code-parted, blocks-size-read, other-shape, prenex-shape, skolem-shape, hash-read}
-use Rattle.skolem.proofs.WordLaws.{no-variable, kind-is, slice-one}
+use Rattle.skolem.proofs.WordLaws.{slice-one}
 
 -- Whether a word of a stretch passes a test, if it is so exactly if one does from i on.
 module _ (p : ℕ → Bool) (ws : List ℕ) (from to i : ℕ) (fits : to ≤ length ws) (begun : any p (slice from to ws) ≡ any p (slice i to ws)) where
@@ -76,10 +75,10 @@ module _ (s : Name) (i : ℕ) (begun : has-hash s ≡ has-hash (drop i s)) where
 -- a word with `#`
 module _ (T M : Bytes) (w : ℕ) where
   pub hashed-function : w % 16 ≡ 11 → hashed (token T M w) ≡ has-hash (spell T M w)
-  hashed-function e = rw (no-variable T M w (λ q. omega arith), e)
+  hashed-function e = rw (other-word T M w (λ q. omega arith), e)
 
   pub hashed-constant : w % 16 ≡ 13 → hashed (token T M w) ≡ has-hash (spell T M w)
-  hashed-constant e = rw (no-variable T M w (λ q. omega arith), e)
+  hashed-constant e = rw (other-word T M w (λ q. omega arith), e)
 
   pub hashed-other : (w % 16 ≡ 11 → ⊥) → (w % 16 ≡ 13 → ⊥) → hashed (token T M w) ≡ false
   hashed-other e k = by-cases (eqb (w % 16) 12) (λ v. rw v) (λ v. rw (v, ne-eqb (w % 16) 11 e, ne-eqb (w % 16) 13 k))
@@ -120,7 +119,7 @@ module _ (ws : List ℕ) (used : ℕ) (fits : used ≤ length ws) where
           let no-var : w % 16 ≡ 12 → ⊥ = λ q. omega (arith, leb-true (w % 16) 9 (and-true-right (leb 8 (w % 16)) (leb (w % 16) 9) c)) in
           let old : i + blocks-size 0 (token T M w ∷ tokens T M (slice (i + 1) used ws)) ≡ blocks-size 0 (tokens T M (take used ws)) =
           ap₂ (λ (n : ℕ) (l : List Token). i + blocks-size n l) (sym e) (sym (next T M h)) ∙ g .ends T M in
-          omega (arith, rw (no-variable T M w no-var, c) at old);
+          omega (arith, rw (other-word T M w no-var, c) at old);
     }
 
     pub past-one : i < used → (left ≡ 0 → ⊥) → Looking ws used (left - 1) (i + 1)
@@ -163,11 +162,11 @@ module _ (T M : Bytes) (ws : List ℕ) (used start : ℕ) (f : Formula) (c : tok
   start-read = sym (e ∙ ap (blocks-size 0) c ∙ blocks-size-read f)
 
   pub matrix-words : tokens T M (slice start used ws) ≡ code ((parted f) .matrix)
-  matrix-words = sym (drop-map (token T M) start (take used ws)) ∙ ap (drop start) (c ∙ code-parted f) ∙ drop-at (prefix-code ((parted f) .prefix)) (code ((parted f) .matrix)) start start-read
+  matrix-words = map-drop (token T M) start (take used ws) ∙ ap (drop start) (c ∙ code-parted f) ∙ drop-at (prefix-code ((parted f) .prefix)) (code ((parted f) .matrix)) start start-read
 
   pub prefix-words : start ≤ used → tokens T M (take start ws) ≡ prefix-code ((parted f) .prefix)
   prefix-words h =
-      ap (tokens T M) (sym (take-take start used ws h)) ∙ sym (take-map (token T M) start (take used ws)) ∙ ap (take start) (c ∙ code-parted f)
+      ap (tokens T M) (sym (take-take start used ws h)) ∙ map-take (token T M) start (take used ws) ∙ ap (take start) (c ∙ code-parted f)
       ∙ take-at (prefix-code ((parted f) .prefix)) (code ((parted f) .matrix)) start start-read
 
 -- The shape that the looks tell.
@@ -216,13 +215,12 @@ moved-on {ws} {from} {i} {O} h l m = record {
 pub moved-all : {ws : List ℕ} {from i : ℕ} {O : List ℕ} {to : ℕ} → i ≡ to → Moved ws from i O → take (to - from) O ≡ slice from to ws
 moved-all e m = rw (← e) (m .words)
 
--- both halves of a table
-pub halves-told : (table : Table) (O : List ℕ) (start : ℕ) → (start ≤ table .used) × ((T M : Bytes) → start ≡ blocks-size 0 (tokens T M (take (table .used) (table .nodes))))
-    → table .used ≤ house .weight → take (table .used - start) O ≡ slice start (table .used) (table .nodes)
-    → (T M : Bytes) (f : Formula) → Holds T M table f
-    → Parted T M f (record { prefix = record { nodes = table .nodes; used = start }; matrix = record { nodes = O; used = table .used - start } })
-halves-told table O start ends small moved T M f h = record {
+-- both halves of a formula
+pub halves-told : (S : List ℕ) (n : ℕ) (O : List ℕ) (start : ℕ) → (start ≤ n) × ((T M : Bytes) → start ≡ blocks-size 0 (tokens T M (take n S)))
+    → n ≤ house .weight → take (n - start) O ≡ slice start n S
+    → (T M : Bytes) (f : Formula) → Holds T M (as-table S n) f → Parted T M S O f (record { prefix = start; matrix = n - start })
+halves-told S n O start ends small moved T M f h = record {
   prefix-room = omega (arith, ends .0);
-  blocks = prefix-words T M (table .nodes) (table .used) start f (h .words) (ends .1 T M) (ends .0);
-  body = record { room = omega arith; words = ap (tokens T M) moved ∙ matrix-words T M (table .nodes) (table .used) start f (h .words) (ends .1 T M) };
+  blocks = prefix-words T M S n start f (h .words) (ends .1 T M) (ends .0);
+  body = record { room = omega arith; words = ap (tokens T M) moved ∙ matrix-words T M S n start f (h .words) (ends .1 T M) };
 }

@@ -12,9 +12,10 @@ use Rattle.definitions.specs.Syntax.{Name}
 use Rattle.definitions.specs.Names.{mem}
 use Rattle.definitions.specs.Laws.Bools.{by-cases}
 use Rattle.text.specs.Words.{Token, kind, count, name}
+use Rattle.text.specs.WordLaws.{map-take, map-drop}
 use Rattle.text.specs.Prefixes.{names}
 use Rattle.skolem.specs.Pass.{most, push, is-new, gather, survey, blank-token, stays, keep, pick, binds, is-var, whole, belongs, put-in, filled}
-use Rattle.skolem.proofs.Lists.{map-same-id, take-map, drop-map}
+use Rattle.skolem.proofs.Lists.{map-same-id}
 
 cond-map : {A B : Type 0} (f : A → B) (b : Bool) (x y : A) → f (cond b x y) ≡ cond b (f x) (f y)
 cond-map f true x y = refl
@@ -76,7 +77,7 @@ module _ {A : Type 0} (d e : A → Token) where
         let c = mem (name (d a)) (names (map d (drop left l))) in
         let h = survey-map left false (cond c g (push g a)) l (few-cond c g (push g a) f (push-few g a f)) (like-cond c g (push g a) p (like-push g a p (head-eq-of-cons-eq q))) (tail-eq-of-cons-eq q) in
         let same : map d (cond c g (push g a)) ≡ cond (mem (name (d a)) (names (map (λ t. t) (drop left (map d l))))) (map d g) (push (map d g) (d a)) =
-        rw (map-same-id (drop left (map d l)), drop-map d left l, cond-map (map d) c g (push g a), push-map d g a) in
+        rw (map-same-id (drop left (map d l)), ← map-drop d left l, cond-map (map d) c g (push g a), push-map d g a) in
         rw (← same) (ap₂ (λ (t : Token) (r : List Token). t ∷ r) (head-eq-of-cons-eq q) (h .0), h .1)
 
 pick-map : {A B : Type 0} (f : A → B) (a : A) (bs : List Bool) (hs : List A) → f (pick a bs hs) ≡ pick (f a) bs (map f hs)
@@ -97,7 +98,7 @@ module _ {A : Type 0} (d : A → Token) where
 
   module _ (g prefix heads : List A) where
     whole-map : (a : A) → map d (whole d g a) ≡ whole (λ t. t) (map d g) (d a)
-    whole-map a = ap (d a ∷_) (cond-map (map d) (eqb (kind (d a)) 11) (take (count (d a)) g) [] ∙ rw (take-map d (count (d a)) g))
+    whole-map a = ap (d a ∷_) (cond-map (map d) (eqb (kind (d a)) 11) (take (count (d a)) g) [] ∙ rw (map-take d (count (d a)) g))
 
     put-in-map : (a : A) → map d (put-in d g prefix heads a) ≡ put-in (λ t. t) (map d g) (map d prefix) (map d heads) (d a)
     put-in-map a =

@@ -13,10 +13,11 @@ use Rattle.definitions.specs.Limits.{house}
 use Rattle.definitions.specs.Syntax.{Name}
 use Rattle.definitions.specs.Names.{mem}
 use Rattle.text.specs.Words.{Token, token, tokens, spell, kind, count, name}
+use Rattle.text.specs.WordLaws.{variable-word, other-word, kind-is, name-is}
 use Rattle.text.specs.Prefixes.{names}
 use Rattle.skolem.specs.Pass.{most, push, is-new, gather, Survey, after, survey, blank-word}
 use Rattle.skolem.specs.Steps.{Scope, Surveys}
-use Rattle.skolem.proofs.WordLaws.{variable, no-variable, kind-is, name-is, slice-one}
+use Rattle.skolem.proofs.WordLaws.{slice-one}
 
 -- One word gathered.
 module _ (T M : Bytes) (B : List Name) (S : List ℕ) (n w : ℕ) where
@@ -28,14 +29,14 @@ module _ (T M : Bytes) (B : List Name) (S : List ℕ) (n w : ℕ) where
   gathered b e = rw e
 
   pub no-variable-gathered : length S ≡ house .weight → n ≤ most → (w % 16 ≡ 12 → ⊥) → Scope S n one
-  no-variable-gathered l f h = record { size = l; few = f; words = sym (gathered false (rw (no-variable T M w h))) }
+  no-variable-gathered l f h = record { size = l; few = f; words = sym (gathered false (rw (other-word T M w h))) }
 
   module _ (v : w % 16 ≡ 12) where
     abbrev x : Name
     x = spell T M w
 
     new-is : is-new B (names (tokens T M (take n S))) (token T M w) ≡ not (mem x B || mem x (names (tokens T M (take n S))))
-    new-is = rw (variable T M w v)
+    new-is = rw (variable-word T M w v)
 
     pub bound-gathered : {b : Bool} → length S ≡ house .weight → n ≤ most → b ≡ mem x B → b ≡ true → Scope S n one
     bound-gathered l f e t = record { size = l; few = f; words = sym (gathered false (new-is ∙ rw (sym e ∙ t))) }

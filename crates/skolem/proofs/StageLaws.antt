@@ -18,6 +18,7 @@ use Rattle.definitions.specs.Skolem.{binders, skolemise, skolem-formula}
 use Rattle.definitions.specs.Convert.{too-large}
 use Rattle.definitions.specs.Laws.Bools.{by-cases, clash}
 use Rattle.text.specs.Words.{Token, token, tokens, code}
+use Rattle.text.specs.WordLaws.{other-word}
 use Rattle.text.specs.Prefixes.{names, prefix-code, Firm}
 use Rattle.text.specs.PrefixLaws.{prefix-names}
 use Rattle.skolem.specs.declared.counters.Counters.{Counters}
@@ -31,7 +32,6 @@ use Rattle.skolem.specs.Filling.{width, Added, done, over, wide, Adds, K
 use Rattle.skolem.proofs.Found.{Stands}
 use Rattle.skolem.proofs.Whole.{surveyed, all-heads, passes, close-weight, close-widest}
 use Rattle.skolem.proofs.Maps.{gather-map, survey-map, keep-map, filled-map}
-use Rattle.skolem.proofs.WordLaws.{no-variable}
 
 -- A word's kind and count do not depend on the names.
 blank-read : (T M : Bytes) (n : ℕ) → n ≤ most → token T M (blank-word n) ≡ blank-token n
@@ -42,7 +42,7 @@ blank-read T M (suc n) h =
     let count-e : (11 + 16 * suc n) / 16 % 64 ≡ suc n = rw whole-e (omega arith) in
     let none-e : (11 + 16 * suc n) / 2048 ≡ 0 = omega arith in
     let size-e : (11 + 16 * suc n) / 2048 % 64 ≡ 0 = rw none-e refl in
-    no-variable T M (11 + 16 * suc n) (λ q. omega (arith, kind-e)) ∙ rw (kind-e, count-e, size-e)
+    other-word T M (11 + 16 * suc n) (λ q. omega (arith, kind-e)) ∙ rw (kind-e, count-e, size-e)
 
 stays-any : (T M : Bytes) (w : ℕ) → stays (token T M w) ≡ stays (token [] [] w)
 stays-any T M w = by-cases (eqb (w % 16) 12) (λ t. rw t) (λ f. rw f)

@@ -1,35 +1,21 @@
--- What a word stands for, by its kind; the scope with one word more; a list with one entry read.
+-- The scope with one word more; a list with one entry read; whether a name is bound in a stretch.
 use mathlib.Core.Path.{_≡_, refl, sym, _∙_}
 use mathlib.Core.Bool.{Bool, true, false, _||_}
 use mathlib.Core.List.{List, _∷_}
-use Prim.Native.Nat.{ℕ, _+_, _%_, _≤_, _<_}
+use Prim.Native.Nat.{ℕ, _+_, _≤_, _<_}
 use native.Mathlib.Numerals.{add-one}
 use native.Mathlib.Omega.{arith}
-use borrow.Author.Tests.{eqb-true, eq-eqb, ne-eqb, lt-ltb, le-ltb}
-use lib.Dec.{eqb}
+use borrow.Author.Tests.{lt-ltb, le-ltb}
 use lib.ListN.{length, take, set, getD, length-set, length-take, drop-of-length-le}
 use lib.Seq.{slice, slice-cons, take-suc-set}
 use Rattle.definitions.specs.Bytes.{Bytes}
 use Rattle.definitions.specs.Limits.{house}
 use Rattle.definitions.specs.Syntax.{Name}
 use Rattle.definitions.specs.Names.{mem}
-use Rattle.definitions.specs.Laws.Bools.{by-cases}
-use Rattle.text.specs.Words.{Token, var-token, sign, token, tokens, spell, kind-of, count-of, kind, name}
+use Rattle.text.specs.Words.{Token, var-token, sign, token, tokens}
 use Rattle.text.specs.Prefixes.{names}
 use Rattle.skolem.specs.Pass.{most, push, binds}
 use Rattle.skolem.specs.Steps.{Scope}
-
-pub variable : (T M : Bytes) (w : ℕ) → w % 16 ≡ 12 → token T M w ≡ var-token (spell T M w)
-variable T M w e = rw (eq-eqb (w % 16) 12 e)
-
-pub no-variable : (T M : Bytes) (w : ℕ) → (w % 16 ≡ 12 → ⊥) → token T M w ≡ sign (kind-of w) (count-of w) (spell T M w)
-no-variable T M w e = rw (ne-eqb (w % 16) 12 e)
-
-pub kind-is : (T M : Bytes) (w : ℕ) → kind (token T M w) ≡ w % 16
-kind-is T M w = by-cases (eqb (w % 16) 12) (λ t. rw t (sym (eqb-true (w % 16) 12 t))) (λ f. rw f)
-
-pub name-is : (T M : Bytes) (w : ℕ) → name (token T M w) ≡ spell T M w
-name-is T M w = by-cases (eqb (w % 16) 12) (λ t. rw t) (λ f. rw f)
 
 -- one entry of a stretch
 pub slice-one : (i to : ℕ) (l : List ℕ) → i < to → to ≤ length l → slice i to l ≡ getD l i 0 ∷ slice (i + 1) to l

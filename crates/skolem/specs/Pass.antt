@@ -1,6 +1,7 @@
 -- Skolem form (source document 001, stage 3) in one pass, over what the tables hold. The terms of an exists block stand on the free
 -- variables and on the entries of forall blocks before it that no later block binds; a matrix variable belongs to the last entry of the
 -- prefix that has its name. Each part is stated over entries of any type with their tokens: the words of a table, or tokens themselves.
+-- Over a prenex form's tokens it gives the definitions' `skolemise` (`passes` in proofs/Whole.antt).
 use mathlib.Core.Bool.{Bool, true, false, not, _||_, cond}
 use mathlib.Core.List.{List, [], _∷_, _++_, map, flatMap}
 use Prim.Native.Nat.{ℕ, zero, suc, _+_, _*_, max}

@@ -5,14 +5,14 @@ use mathlib.Core.Bool.{Bool, true, false, _&&_, _||_, cond}
 use mathlib.Core.List.{List, [], _∷_}
 use Prim.Native.Nat.{ℕ, zero, suc, _≤_}
 use lib.Dec.{eqb, leb}
-use lib.ListN.{take}
+use lib.ListN.{length, take}
 use Rattle.definitions.specs.Bytes.{Bytes}
 use Rattle.definitions.specs.Limits.{house}
 use Rattle.definitions.specs.Syntax.{Formula}
 use Rattle.definitions.specs.Prenex.{parted, is-prenex, is-skolem}
 use Rattle.definitions.specs.Skolem.{has-hash}
 use Rattle.text.specs.Words.{Token, var-token, sign, tokens, kind, count}
-use Rattle.text.specs.Tables.{Holds}
+use Rattle.text.specs.Tables.{as-table, Holds}
 use Rattle.text.specs.Prefixes.{prefix-code}
 use Rattle.skolem.specs.declared.shape.Shape.{Shape}
 use Rattle.skolem.specs.declared.shape.Shape.the-variants.{Skolem, Prenex, Other}
@@ -53,8 +53,12 @@ pub record Shaped (f : Formula) (r : Shape) : Type 0 where
   pub prenex : is-prenex f ≡ prenex-shape r
   pub skolem : is-skolem f ≡ skolem-shape r
 
--- two tables with the blocks and the matrix of a formula as it stands
-pub record Parted (T M : Bytes) (f : Formula) (r : Halves) : Type 0 where
-  pub prefix-room : r .prefix .used ≤ house .weight
-  pub blocks : tokens T M (take (r .prefix .used) (r .prefix .nodes)) ≡ prefix-code ((parted f) .prefix)
-  pub body : Holds T M (r .matrix) ((parted f) .matrix)
+-- the blocks of a formula as it stands, at the front of S, and its matrix, at the front of X
+pub record Parted (T M : Bytes) (S X : List ℕ) (f : Formula) (r : Halves) : Type 0 where
+  pub prefix-room : r .prefix ≤ house .weight
+  pub blocks : tokens T M (take (r .prefix) S) ≡ prefix-code ((parted f) .prefix)
+  pub body : Holds T M (as-table X (r .matrix)) ((parted f) .matrix)
+
+pub record Splits (S : List ℕ) (n : ℕ) (X X′ : List ℕ) (r : Halves) : Type 0 where
+  pub size : length X′ ≡ length X
+  pub halves : length S ≡ house .weight → length X ≡ house .weight → (T M : Bytes) (f : Formula) → Holds T M (as-table S n) f → Parted T M S X′ f r

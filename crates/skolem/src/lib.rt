@@ -2,7 +2,8 @@
 // variable that an exists block binds.
 use crate::counters::Counters;
 use text::table::Table;
-ghost use Rattle.skolem.specs.Stage.{Skolemises};
+ghost use mathlib.Core.Path.{_≡_};
+ghost use Rattle.skolem.specs.Stage.{Tested, Skolemises};
 
 pub mod counters;
 mod heads;
@@ -17,109 +18,106 @@ pub enum Fate {
     NoRoom,
 }
 
-// The forall blocks, the matrix, where the made names end, and the counters then.
+// How many words the forall blocks and the matrix have, where the made names end, and the counters then.
 pub struct Skolemised {
-    pub prefix: Table,
-    pub matrix: Table,
+    pub blocks: usize,
+    pub body: usize,
     pub made: usize,
     pub counters: Counters,
     pub fate: Fate,
 }
 
-// The Skolem form of a prenex form: `prefix` has its blocks, `matrix` the rest. The names of its constants and functions, `c#k` and
-// `f#k`, are drawn from the counters and written to `made` behind its first `used` bytes; seven bytes are enough for each entry of the
-// prefix, and numbers up to 65,535. `Heavy` where the form weighs over 1,024 or has a function of more than 32 arguments.
+// Whether the lent arrays are as long as their types say.
+fn are_whole(
+    prefix: &[u64; Table::WEIGHT],
+    matrix: &[u64; Table::WEIGHT],
+    blocks: &[u64; Table::WEIGHT],
+    body: &[u64; Table::WEIGHT],
+) -> bool
+    ensures { λ r. ⌜ Tested (now (prefix .entry)) (now (matrix .entry)) (now (blocks .entry)) (now (body .entry)) r ⌝ }
+{
+    if !Table::is_whole(prefix) {
+        return false;
+    }
+    if !Table::is_whole(matrix) {
+        return false;
+    }
+    if !Table::is_whole(blocks) {
+        return false;
+    }
+    Table::is_whole(body)
+}
+
+// No form.
+fn none(made: usize, counters: Counters, fate: Fate) -> Skolemised
+    ensures { λ r. ⌜ r ≡ record { blocks = 0; body = 0; made = made; counters = counters; fate = fate } ⌝ }
+{
+    Skolemised {
+        blocks: 0,
+        body: 0,
+        made: made,
+        counters: counters,
+        fate: fate,
+    }
+}
+
+// The Skolem form of a prenex form: the first `bound` words of `prefix` are its blocks, the first `size` of `matrix` the rest. Its forall
+// blocks go to `blocks`, its matrix to `body`. The names of its constants and functions, `c#k` and `f#k`, are drawn from the counters and
+// written to `made` behind its first `used` bytes; seven bytes are enough for each entry of the prefix, and numbers up to 65,535. `Heavy`
+// where the form weighs over 1,024 or has a function of more than 32 arguments.
 pub fn skolemise(
-    prefix: Table,
-    matrix: Table,
+    prefix: &[u64; Table::WEIGHT],
+    bound: usize,
+    matrix: &[u64; Table::WEIGHT],
+    size: usize,
     text: &[u8],
     made: &mut [u8],
     used: usize,
     counters: Counters,
+    blocks: &mut [u64; Table::WEIGHT],
+    body: &mut [u64; Table::WEIGHT],
 ) -> Skolemised
-    ensures { λ r. ⌜ Skolemises (now (text .entry)) (now (made .entry)) used counters prefix matrix (now (made .exit)) r ⌝ }
+    ensures { λ r. ⌜ Skolemises (now (text .entry)) (now (made .entry)) used counters (now (prefix .entry)) bound (now (matrix .entry)) size (now (blocks .entry)) (now (body .entry))
+        (now (made .exit)) (now (blocks .exit)) (now (body .exit)) r ⌝ }
 {
-    let mut blocks = Table::empty();
-    let mut body = Table::empty();
-    let bound = prefix.used;
-    let size = matrix.used;
+    if !are_whole(prefix, matrix, blocks, body) {
+        return none(used, counters, Fate::NoRoom);
+    }
     if bound > Table::WEIGHT {
-        return Skolemised {
-            prefix: blocks,
-            matrix: body,
-            made: used,
-            counters: counters,
-            fate: Fate::NoRoom,
-        };
+        return none(used, counters, Fate::NoRoom);
     }
     if size > Table::WEIGHT {
-        return Skolemised {
-            prefix: blocks,
-            matrix: body,
-            made: used,
-            counters: counters,
-            fate: Fate::NoRoom,
-        };
+        return none(used, counters, Fate::NoRoom);
     }
-    let mut heads = Table::empty();
-    let mut scope = Table::empty();
-    let free = scope::free_variables(
-        &prefix.nodes,
-        bound,
-        &matrix.nodes,
-        size,
-        text,
-        made,
-        &mut scope.nodes,
-    );
-    let n = scope::survey(
-        &prefix.nodes,
-        bound,
-        text,
-        made,
-        &mut heads.nodes,
-        &mut scope.nodes,
-        free,
-    );
-    let named = heads::name_all(&mut heads.nodes, bound, made, used, counters);
+    let mut heads = [0u64; Table::WEIGHT];
+    let mut scope = [0u64; Table::WEIGHT];
+    let free = scope::free_variables(prefix, bound, matrix, size, text, made, &mut scope);
+    let n = scope::survey(prefix, bound, text, made, &mut heads, &mut scope, free);
+    let named = heads::name_all(&mut heads, bound, made, used, counters);
     let after = named.counters;
     if !named.fits {
-        return Skolemised {
-            prefix: blocks,
-            matrix: body,
-            made: named.at,
-            counters: after,
-            fate: Fate::NoRoom,
-        };
+        return none(named.at, after, Fate::NoRoom);
     }
-    let kept = matrix::foralls(&heads.nodes, bound, &mut blocks.nodes);
-    blocks.used = kept;
+    let kept = matrix::foralls(&heads, bound, blocks);
     let went = matrix::fill(
-        &prefix.nodes,
-        &heads.nodes,
+        prefix,
+        &heads,
         bound,
-        &scope.nodes,
+        &scope,
         n,
         text,
         made,
-        &matrix.nodes,
+        matrix,
         size,
-        &mut body.nodes,
+        body,
         Table::WEIGHT - kept,
     );
     if went.stopped {
-        return Skolemised {
-            prefix: blocks,
-            matrix: body,
-            made: named.at,
-            counters: after,
-            fate: Fate::Heavy,
-        };
+        return none(named.at, after, Fate::Heavy);
     }
-    body.used = went.used;
     Skolemised {
-        prefix: blocks,
-        matrix: body,
+        blocks: kept,
+        body: went.used,
         made: named.at,
         counters: after,
         fate: Fate::Made,

@@ -16,8 +16,7 @@ ghost use Rattle.definitions.specs.Limits.{house};
 ghost use Rattle.definitions.specs.Syntax.{Formula};
 ghost use Rattle.definitions.specs.Skolem.{has-hash, hash-free};
 ghost use Rattle.text.specs.Words.{token, tokens, kind-of, code};
-ghost use Rattle.text.specs.Tables.{Holds};
-ghost use Rattle.skolem.specs.Shape.{any, between, blocks-size, hashed as hashed-token, Shaped, Parted};
+ghost use Rattle.skolem.specs.Shape.{any, between, blocks-size, hashed as hashed-token, Shaped, Splits};
 
 const HASH: u8 = 35;
 
@@ -139,16 +138,16 @@ pub fn shape_of(nodes: &[u64], used: usize) -> Shape
     Shape::Skolem
 }
 
-// The blocks that a formula begins with, and the rest of it.
+// How many words the blocks have that a formula begins with, and how many the rest of it.
 pub struct Halves {
-    pub prefix: Table,
-    pub matrix: Table,
+    pub prefix: usize,
+    pub matrix: usize,
 }
 
 // Moves nodes[from..to] to the front of a table.
 fn copy(nodes: &[u64; Table::WEIGHT], from: usize, to: usize, out: &mut [u64; Table::WEIGHT])
     requires { ⌜ (length (now nodes) ≡ house .weight) × (from ≤ to) × (to ≤ house .weight) × (length (now out) ≡ house .weight) ⌝ }
-    ensures { λ _. ⌜ take (to - from) (now (out .exit)) ≡ slice from to (now (nodes .entry)) ⌝ }
+    ensures { λ _. ⌜ (length (now (out .exit)) ≡ house .weight) × (take (to - from) (now (out .exit)) ≡ slice from to (now (nodes .entry))) ⌝ }
 {
     let mut i = from;
     while i < to {
@@ -157,25 +156,33 @@ fn copy(nodes: &[u64; Table::WEIGHT], from: usize, to: usize, out: &mut [u64; Ta
     }
 }
 
-// A table's formula in two tables: its blocks, and its matrix. A table that holds no formula gives some tables.
-pub fn split(table: Table) -> Halves
-    ensures { λ r. ⌜ ((T M : Bytes) (f : Formula) → Holds T M table f → Parted T M f r) ⌝ }
+// The formula of the first `used` nodes in two parts: its blocks stay at their front, and its matrix goes to the front of `matrix`. Nodes
+// that hold no formula give some words.
+pub fn split(nodes: &[u64; Table::WEIGHT], used: usize, matrix: &mut [u64; Table::WEIGHT]) -> Halves
+    ensures { λ r. ⌜ Splits (now (nodes .entry)) used (now (matrix .entry)) (now (matrix .exit)) r ⌝ }
 {
-    let mut matrix = Table::empty();
-    let used = table.used;
     if used > Table::WEIGHT {
         return Halves {
-            prefix: table,
-            matrix: matrix,
+            prefix: 0,
+            matrix: 0,
         };
     }
-    let start = blocks_end(&table.nodes, used);
-    copy(&table.nodes, start, used, &mut matrix.nodes);
-    matrix.used = used - start;
-    let mut prefix = table;
-    prefix.used = start;
+    if !Table::is_whole(nodes) {
+        return Halves {
+            prefix: 0,
+            matrix: 0,
+        };
+    }
+    if !Table::is_whole(matrix) {
+        return Halves {
+            prefix: 0,
+            matrix: 0,
+        };
+    }
+    let start = blocks_end(nodes, used);
+    copy(nodes, start, used, matrix);
     Halves {
-        prefix: prefix,
-        matrix: matrix,
+        prefix: start,
+        matrix: used - start,
     }
 }

@@ -21,8 +21,8 @@ use Rattle.stream.specs.declared.machine.State.{State}
 use Rattle.stream.specs.declared.machine.Phase.{Phase}
 use Rattle.stream.specs.Machine.{at, rule-tab, Print, no-print, refusal-print, done-print, rule-print, conversion-at, result-bytes, name-kept, text-kept, longest-label, print-bytes, print-work, due-print, print-in, last-print, last-in, last-second}
 use Rattle.convert.specs.declared.Answer
-use Rattle.convert.specs.Answers.{meaning, Meets}
-use Rattle.stream.specs.declared.print.Said.{Said}
+use Rattle.convert.specs.declared.Answer.the-variants as answers
+use Rattle.convert.specs.Answers.{meaning, number-of, place-of, Meets}
 use Rattle.stream.specs.Pushing.{Told, Put, Prints, print-room}
 
 -- a number of 64 bits has at most 20 digits
@@ -259,9 +259,17 @@ pub second-refused : {o o₁ w : Bytes} {r : ℕ} (c k : ℕ) → (k ≡ 0 → �
 second-refused c k e p = rw (ne-eqb k 0 e) (refused-put p)
 
 -- an answer in numbers
-pub told-refused : {a v : Rattle.convert.specs.declared.Answer.Answer} {s : Said} (n p : ℕ) → a ≡ v → s ≡ record { given = false; number = n; place = p } → meaning v ≡ not-given n p
-    → Told a (s .given) (s .number) (s .place)
-told-refused n p e q m = record { means = rw (e, q) m }
+pub told-numbers : (a : Rattle.convert.specs.declared.Answer.Answer) {n p : ℕ} → n ≡ number-of (meaning a) → p ≡ place-of (meaning a) → Told a (eqb n 0) n p
+told-numbers (answers.Length k) e q = record { means = rw (e, q) }
+told-numbers answers.Room e q = record { means = rw (e, q) }
+told-numbers (answers.Malformed k) e q = record { means = rw (e, q) }
+told-numbers (answers.Large k) e q = record { means = rw (e, q) }
+told-numbers answers.Shape e q = record { means = rw (e, q) }
+told-numbers answers.Hash e q = record { means = rw (e, q) }
+told-numbers (answers.Name k) e q = record { means = rw (e, q) }
+told-numbers (answers.Weight k) e q = record { means = rw (e, q) }
+told-numbers answers.Clauses e q = record { means = rw (e, q) }
+told-numbers answers.Work e q = record { means = rw (e, q) }
 
 -- the text ends before the four bytes of `rule`
 pub rule-due : {o o′ w w′ : Bytes} {r : ℕ} (c : ℕ) (good : Bool) (kept : Bytes) (label size : ℕ) {end : ℕ} → end ≡ size - 4

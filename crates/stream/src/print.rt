@@ -147,34 +147,14 @@ struct Said {
     place: usize,
 }
 
-fn refused(number: u64, place: usize) -> Said
-    ensures { λ r. ⌜ r ≡ record { given = false; number = number; place = place } ⌝ }
-{
-    Said {
-        given: false,
-        number: number,
-        place: place,
-    }
-}
-
 fn in_numbers(answer: Answer) -> Said
     ensures { λ r. ⌜ Told answer (r .given) (r .number) (r .place) ⌝ }
 {
-    match answer {
-        Answer::Length(n) => Said {
-            given: true,
-            number: 0,
-            place: n,
-        },
-        Answer::Room => refused(1, 0),
-        Answer::Malformed(line) => refused(2, line),
-        Answer::Large(line) => refused(3, line),
-        Answer::Shape => refused(4, 0),
-        Answer::Hash => refused(5, 0),
-        Answer::Name(stage) => refused(6, stage),
-        Answer::Weight(stage) => refused(7, stage),
-        Answer::Clauses => refused(8, 5),
-        Answer::Work => refused(9, 0),
+    let number = convert::number_of(answer);
+    Said {
+        given: number == 0,
+        number: number,
+        place: convert::place_of(answer),
     }
 }
 

@@ -11,10 +11,11 @@ use Rattle.definitions.specs.Limits.{house}
 use Rattle.definitions.specs.Syntax.{Name}
 use Rattle.definitions.specs.Names.{mem, filter, union, keep}
 use Rattle.text.specs.Words.{var-token, token, tokens, spell, kind-of}
+use Rattle.text.specs.WordLaws.{variable-word, other-word}
 use Rattle.substitution.specs.Runs.{spells, Adds, Notes}
 use Rattle.substitution.specs.Slices.{slice-put}
 use Rattle.substitution.specs.Unions.{nothing-union, union-assoc, keep-union}
-use Rattle.substitution.specs.Spelled.{var-word, other-word, vars-spelled}
+use Rattle.substitution.specs.Spelled.{vars-spelled}
 use Rattle.substitution.specs.Keeping.{keeps-all, keeps-put}
 
 in-list : (T M : Bytes) (word : ℕ) (r : Bool) (ws : List ℕ) → r ≡ mem (spell T M word) (spells T M ws) → (l : List Name) → tokens T M ws ≡ map var-token l → mem (spell T M word) l ≡ r
@@ -41,7 +42,7 @@ module _ {T M : Bytes} {N : List ℕ} {low high : ℕ} {O : List ℕ} {used : �
     pub unasked-variable : a ≡ false → Notes T M N low high word O used O used
     unfolding filter
     unasked-variable f =
-        record { keeps = keeps-all; short = omega arith; adds = λ h n. rw (var-word T M word kind) (record { list = λ o l e. rw (sym (asked h n) ∙ f, append-nil l) e }) }
+        record { keeps = keeps-all; short = omega arith; adds = λ h n. rw (variable-word T M word kind) (record { list = λ o l e. rw (sym (asked h n) ∙ f, append-nil l) e }) }
 
     module _ (t : a ≡ true) (r : Bool) (found : used ≤ house .weight → length O ≡ house .weight → r ≡ mem (spell T M word) (spells T M (take used O))) (k : used < house .weight) where
       pub known-variable : r ≡ true → Notes T M N low high word O used O used
@@ -50,7 +51,7 @@ module _ {T M : Bytes} {N : List ℕ} {low high : ℕ} {O : List ℕ} {used : �
           record {
             keeps = keeps-all;
             short = omega arith;
-            adds = λ h n. rw (var-word T M word kind) (record { list = λ o l e. rw (sym (asked h n) ∙ t, in-list T M word r (take used O) (found (omega arith) o) l e, y, append-nil l) e });
+            adds = λ h n. rw (variable-word T M word kind) (record { list = λ o l e. rw (sym (asked h n) ∙ t, in-list T M word r (take used O) (found (omega arith) o) l e, y, append-nil l) e });
           }
 
       pub new-variable : r ≡ false → Notes T M N low high word O used (set O used word) (used + 1)
@@ -60,8 +61,8 @@ module _ {T M : Bytes} {N : List ℕ} {low high : ℕ} {O : List ℕ} {used : �
             keeps = keeps-put;
             short = omega arith;
             adds = λ h n.
-                rw (var-word T M word kind) (record {
+                rw (variable-word T M word kind) (record {
                   list = λ o l e. ap (map (token T M)) (slice-put 0 used O word (omega arith) (omega arith)) ∙ map-append (token T M) (take used O) (word ∷ [])
-                      ∙ rw (e, var-word T M word kind, sym (asked h n) ∙ t, in-list T M word r (take used O) (found (omega arith) o) l e, y) (sym (map-append var-token l (spell T M word ∷ [])));
+                      ∙ rw (e, variable-word T M word kind, sym (asked h n) ∙ t, in-list T M word r (take used O) (found (omega arith) o) l e, y) (sym (map-append var-token l (spell T M word ∷ [])));
                 });
           }

@@ -12,13 +12,13 @@ use Rattle.definitions.specs.Bytes.{Bytes}
 use Rattle.definitions.specs.Limits.{house}
 use Rattle.definitions.specs.Syntax.{Name, Formula, Term, Terms, count}
 use Rattle.definitions.specs.Names.{mem, union, without, keep, free, term-vars, terms-vars}
-use Rattle.text.specs.Words.{Token, var-token, token, tokens, kind-of, count-of, code, terms-code}
+use Rattle.text.specs.Words.{Token, var-token, token, tokens, kind-of, count-of, code, terms-code, sides, below}
+use Rattle.text.specs.Shapes.{code-splits, Shapes, by-shape}
 use Rattle.substitution.specs.Runs.{spells, staying, Adds, Collects, Sifts, Safe, Within, Lists}
 use Rattle.substitution.specs.Slices.{slice-split, slice-cut}
 use Rattle.substitution.specs.Unions.{filter-swap, union-nothing, nothing-union}
 use Rattle.substitution.specs.Spelled.{vars-spelled, those-spelled}
 use Rattle.substitution.specs.Keeping.{unmade-none, keeps-all, keeps-on}
-use Rattle.substitution.specs.Nodes.{below, sides, code-splits, Shapes, by-shape}
 use Rattle.substitution.proofs.Collecting.{collects-word, collects-past}
 
 -- what is safe after a call
@@ -34,9 +34,9 @@ module _ {S : List ℕ} {at end : ℕ} {O : List ℕ} {used : ℕ} where
 
 -- at a node: what is below it
 module _ {T M : Bytes} {N : List ℕ} {low high : ℕ} {S : List ℕ} {at end : ℕ} {O : List ℕ} {used : ℕ} {O′ : List ℕ} {next used′ : ℕ} where
-  pub at-node : at < end → end ≤ house .weight → Shapes (kind-of (getD S at 0)) (count-of (getD S at 0)) (λ f i. Collects T M N low high S (at + 1) end O used O′ next used′ i (free f))
+  pub at-node : at < end → end ≤ house .weight → Shapes (kind-of (getD S at 0)) (count-of (getD S at 0)) (λ f. Collects T M N low high S (at + 1) end O used O′ next used′ (below f) (free f))
       → (f : Formula) → Collects T M N low high S at end O used O′ next used′ (code f) (free f)
-  at-node h g s f = rw (code-splits f) (collects-word h g (λ w. by-shape T M (getD S at 0) (λ f i. Collects T M N low high S (at + 1) end O used O′ next used′ i (free f)) s f w))
+  at-node h g s f = rw (code-splits f) (collects-word h g (λ w. by-shape T M (getD S at 0) (λ f. Collects T M N low high S (at + 1) end O used O′ next used′ (below f) (free f)) refl s f w))
 
   pub no-node : end ≤ house .weight → end ≤ at → at ≤ end → (f : Formula) → Collects T M N low high S at end O used O′ next used′ (code f) (free f)
   no-node g h l f = rw (code-splits f) (collects-past g (omega arith) l)

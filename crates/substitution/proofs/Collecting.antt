@@ -9,10 +9,11 @@ use Rattle.definitions.specs.Bytes.{Bytes}
 use Rattle.definitions.specs.Limits.{house}
 use Rattle.definitions.specs.Syntax.{Name, Terms, count}
 use Rattle.definitions.specs.Names.{union, terms-vars}
-use Rattle.text.specs.Words.{Token, token, tokens, terms-code}
+use Rattle.text.specs.Words.{Token, token, tokens, behind, terms-code}
+use Rattle.text.specs.Arguments.{first, some-terms, no-terms}
 use Rattle.substitution.specs.Runs.{Notes, Collects, Safe}
 use Rattle.substitution.specs.Slices.{slice-next}
-use Rattle.substitution.specs.Arguments.{behind, first, no-terms}
+use Rattle.substitution.specs.Arguments.{first-vars}
 use Rattle.substitution.specs.Keeping.{keeps-all, keeps-on, keeps-word}
 use Rattle.substitution.proofs.Adding.{adds-none, adds-on}
 
@@ -44,9 +45,6 @@ module _ {T M : Bytes} {N : List ℕ} {low high : ℕ} {S : List ℕ} {at end : 
 pub record Due (T M : Bytes) (N : List ℕ) (low high : ℕ) (S : List ℕ) (at end due : ℕ) (O : List ℕ) (used : ℕ) (O′ : List ℕ) (next used′ : ℕ) : Type 0 where
   pub terms : (ts : Terms) → count ts ≡ due → Collects T M N low high S at end O used O′ next used′ (terms-code ts) (terms-vars ts)
 
-some-terms : (ts : Terms) → 0 < count ts → 0 < length (terms-code ts)
-some-terms ts h = let f = first ts h in rw (f .split) (omega arith)
-
 -- the loop over terms: it stands inside the stretch, and whoever collects from the terms that are left collects from all
 pub record Looping (T M : Bytes) (N : List ℕ) (low high : ℕ) (S : List ℕ) (at end due : ℕ) (O : List ℕ) (used : ℕ) (O′ : List ℕ) (next have left : ℕ) : Type 0 where
   pub safe : Safe S at end O used O′ next have
@@ -75,8 +73,9 @@ module _ {T M : Bytes} {N : List ℕ} {low high : ℕ} {S : List ℕ} {at end du
       where
         go : {O₃ : List ℕ} {p u : ℕ} (ts : Terms) → count ts ≡ left → Due T M N low high S (next + 1) end (left - 1 + n) O₂ have₂ O₃ p u → Collects T M N low high S next end O′ have O₃ p u (terms-code ts) (terms-vars ts)
         go ts e d =
-            let f = first ts (omega arith) in
-            rw (f .split, f .vars) (collects-word h g (λ w. record {
+            let some : 0 < count ts = omega arith in
+            let f = first ts some in
+            rw (f .split, first-vars ts some) (collects-word h g (λ w. record {
               ends = λ b c s rest x. let y = d .terms (f .after) (omega (arith, f .due, k T M, ap behind w)) .ends b c s rest x in (y .0, adds-on (a .keeps .size) (rw w at (a .adds b c)) (y .1));
             }))
 
@@ -84,4 +83,5 @@ module _ {T M : Bytes} {N : List ℕ} {low high : ℕ} {S : List ℕ} {at end du
     loop-stops h z = l .on O′ next have (record { terms = λ ts e. collects-past g (omega (arith, some-terms ts (omega arith))) (l .safe .inside) })
 
     pub loop-ends : left ≡ 0 → Due T M N low high S at end due O used O′ next have
-    loop-ends z = l .on O′ next have (record { terms = λ ts e. let n = no-terms ts (e ∙ z) in rw (n .0, n .1) collects-none })
+    unfolding terms-code terms-vars
+    loop-ends z = l .on O′ next have (record { terms = λ ts e. rw (no-terms ts (e ∙ z)) collects-none })

@@ -6,4 +6,3 @@ pub mod Unions
 pub mod Spelled
 pub mod Arguments
 pub mod Keeping
-pub mod Nodes

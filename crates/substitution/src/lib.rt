@@ -21,9 +21,8 @@ ghost use Rattle.definitions.specs.Bytes.{Bytes};
 ghost use Rattle.definitions.specs.Limits.{house};
 ghost use Rattle.definitions.specs.Syntax.{Name, Formula, Terms, count as count-terms};
 ghost use Rattle.definitions.specs.Names.{mem, free as free-of, terms-vars, union, without};
-ghost use Rattle.text.specs.Words.{token, var-token, code, terms-code, count-of, spell};
+ghost use Rattle.text.specs.Words.{token, var-token, behind, code, terms-code, count-of, spell};
 ghost use Rattle.substitution.specs.Runs.{spells, Retains, Sifts, Notes, Within, Safe, Collects, Lists};
-ghost use Rattle.substitution.specs.Arguments.{behind};
 
 // How far a run came: the next word to read, and how many words the list has.
 pub struct Went {

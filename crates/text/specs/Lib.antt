@@ -1,8 +1,14 @@
 pub mod Words
+pub mod WordLaws
 pub mod Tables
+pub mod Wholes
 pub mod Names
 pub mod Weights
+pub mod Shapes
+pub mod Streams
+pub mod Arguments
 pub mod Prefixes
 pub mod PrefixLaws
 pub mod Nodes
 pub mod NodeLaws
+pub mod Digits

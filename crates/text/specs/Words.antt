@@ -59,6 +59,11 @@ token T M w = cond (eqb (kind-of w) 12) (var-token (spell T M w)) (sign (kind-of
 abbrev pub tokens : Bytes → Bytes → List ℕ → List Token
 tokens T M ws = map (token T M) ws
 
+-- how many terms stand behind a term's token: a function's arguments
+abbrev pub behind : Token → ℕ
+behind (var-token x) = 0
+behind (sign k n s) = cond (eqb k 11) n 0
+
 -- the tokens of terms and formulae, in preorder
 unfoldable mutual
   pub term-code : Term → List Token
@@ -91,3 +96,25 @@ code (eq t u) = sign 7 0 [] ∷ (term-code t ++ term-code u)
 code (neg f) = sign 2 0 [] ∷ code f
 code (bin o f g) = sign (op-kind o) 0 [] ∷ (code f ++ code g)
 code (blk q vs f) = block-code q vs ++ code f
+
+-- a formula's first token, and the tokens behind it: the two sides of an equation are terms
+abbrev pub sides : Term → Term → Terms
+sides t u = cons t (cons u nil)
+
+abbrev pub root : Formula → Token
+root top = sign 0 0 []
+root bot = sign 1 0 []
+root (pred p ts) = sign 10 (arguments ts) p
+root (eq t u) = sign 7 0 []
+root (neg f) = sign 2 0 []
+root (bin o f g) = sign (op-kind o) 0 []
+root (blk q vs f) = sign (block-kind q) (length vs) []
+
+abbrev pub below : Formula → List Token
+below top = []
+below bot = []
+below (pred p ts) = terms-code ts
+below (eq t u) = terms-code (sides t u)
+below (neg f) = code f
+below (bin o f g) = code f ++ code g
+below (blk q vs f) = map var-token vs ++ code f

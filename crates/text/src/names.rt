@@ -1,11 +1,11 @@
 // Names: whether two are one, which comes first, and the spelling of a symbol.
 ghost use mathlib.Core.Path.{_≡_};
-ghost use mathlib.Core.Bool.{_&&_};
-ghost use lib.Dec.{eqb};
-ghost use lib.ListN.{take, drop};
+ghost use Prim.Native.Nat.{_+_, _*_, _<_, _≤_};
+ghost use lib.ListN.{length, take, drop};
 ghost use Rattle.definitions.specs.Bytes.{same};
 ghost use Rattle.text.specs.Words.{spell};
 ghost use Rattle.text.specs.Names.{Compared};
+ghost use Rattle.text.specs.Digits.{onward, backward, Number};
 
 // What a comparison answers: document 01's minus one, zero, one.
 pub enum Order {
@@ -14,24 +14,69 @@ pub enum Order {
     Greater,
 }
 
-// Whether no byte differed so far, nor do these two.
-fn still(before: bool, x: u8, y: u8) -> bool
-    ensures { λ r. ⌜ r ≡ (before && eqb x y) ⌝ }
+// The number of four digits, the lowest first.
+fn number(w: u8, x: u8, y: u8, z: u8) -> u64
+    ensures { λ r. ⌜ (r ≡ w + 256 * (x + 256 * (y + 256 * z))) × (r < 4294967296) ⌝ }
 {
-    if x != y {
-        return false;
-    }
-    before
+    (w as u64) + 256 * ((x as u64) + 256 * ((y as u64) + 256 * (z as u64)))
 }
 
-// Whether two names are one. Names that are alike mostly differ in their last byte. The loop has no way out before its end, so that
-// the compiler takes many bytes at once.
-pub fn same_name(a: &[u8], b: &[u8]) -> bool
+// Four bytes of s as one number, so that the compiler loads them at once. The machine's own order: the first byte is the lowest.
+fn four(s: &[u8], at: usize) -> u64
+    requires { ⌜ at + 4 ≤ length (now s) ⌝ }
+    ensures { λ r. ⌜ Number 4 (onward (now (s .entry)) at) r ⌝ }
+{
+    number(s[at], s[at + 1], s[at + 2], s[at + 3])
+}
+
+// Eight, the same way.
+fn eight(s: &[u8], at: usize) -> u64
+    requires { ⌜ at + 8 ≤ length (now s) ⌝ }
+    ensures { λ r. ⌜ Number 8 (onward (now (s .entry)) at) r ⌝ }
+{
+    four(s, at) + 4294967296 * four(s, at + 4)
+}
+
+// Whether two names of one length are one, of eight bytes or more. Names that are alike mostly differ in their last bytes, so those come
+// first; the last step from the front may go over some of them again.
+fn same_eights(a: &[u8], b: &[u8]) -> bool
+    requires { ⌜ (8 ≤ length (now a)) × (length (now a) ≡ length (now b)) ⌝ }
     ensures { λ r. ⌜ r ≡ same (now (a .entry)) (now (b .entry)) ⌝ }
 {
-    if a.len() != b.len() {
+    let last = a.len() - 8;
+    if eight(a, last) != eight(b, last) {
         return false;
     }
+    let mut i = 0;
+    while i < last {
+        if eight(a, i) != eight(b, i) {
+            return false;
+        }
+        i += 8;
+    }
+    true
+}
+
+// The same of four to eight bytes: the last four and the first four.
+fn same_fours(a: &[u8], b: &[u8]) -> bool
+    requires { ⌜ (4 ≤ length (now a)) × (length (now a) ≤ 8) × (length (now a) ≡ length (now b)) ⌝ }
+    ensures { λ r. ⌜ r ≡ same (now (a .entry)) (now (b .entry)) ⌝ }
+{
+    let last = a.len() - 4;
+    if four(a, last) != four(b, last) {
+        return false;
+    }
+    if four(a, 0) != four(b, 0) {
+        return false;
+    }
+    true
+}
+
+// The same of up to three bytes: the last, the first and the middle one.
+fn same_few(a: &[u8], b: &[u8]) -> bool
+    requires { ⌜ (length (now a) < 4) × (length (now a) ≡ length (now b)) ⌝ }
+    ensures { λ r. ⌜ r ≡ same (now (a .entry)) (now (b .entry)) ⌝ }
+{
     if a.len() == 0 {
         return true;
     }
@@ -39,20 +84,81 @@ pub fn same_name(a: &[u8], b: &[u8]) -> bool
     if a[last] != b[last] {
         return false;
     }
-    let mut one = true;
-    let mut i = 0;
-    while i < a.len() {
-        one = still(one, a[i], b[i]);
-        i += 1;
+    if a[0] != b[0] {
+        return false;
     }
-    one
+    let middle = a.len() / 2;
+    if a[middle] != b[middle] {
+        return false;
+    }
+    true
 }
 
-// Which of two names comes first: by bytes, and a name that the other begins with before that one.
+// Whether two names are one.
+pub fn same_name(a: &[u8], b: &[u8]) -> bool
+    ensures { λ r. ⌜ r ≡ same (now (a .entry)) (now (b .entry)) ⌝ }
+{
+    if a.len() != b.len() {
+        return false;
+    }
+    if a.len() >= 8 {
+        return same_eights(a, b);
+    }
+    if a.len() >= 4 {
+        return same_fours(a, b);
+    }
+    same_few(a, b)
+}
+
+// Eight bytes of s as one number, the first byte the highest: such numbers are in the order of the bytes.
+fn great(s: &[u8], at: usize) -> u64
+    requires { ⌜ at + 8 ≤ length (now s) ⌝ }
+    ensures { λ r. ⌜ Number 8 (backward (now (s .entry)) at) r ⌝ }
+{
+    let low = number(s[at + 7], s[at + 6], s[at + 5], s[at + 4]);
+    let high = number(s[at + 3], s[at + 2], s[at + 1], s[at]);
+    low + 4294967296 * high
+}
+
+fn shorter(x: usize, y: usize) -> usize
+    ensures { λ r. ⌜ (r ≤ x) × (r ≤ y) ⌝ }
+{
+    if x < y {
+        return x;
+    }
+    y
+}
+
+// Which of two names comes first: by bytes, and a name that the other begins with before that one. Eight bytes at a time as far as both go,
+// the last eight over bytes again that were the same; byte by byte where there are no eight.
 pub fn compare(a: &[u8], b: &[u8]) -> Order
     ensures { λ r. ⌜ Compared (now (a .entry)) (now (b .entry)) r ⌝ }
 {
+    let n = shorter(a.len(), b.len());
     let mut i = 0;
+    if n >= 8 {
+        let last = n - 8;
+        while i < last {
+            let x = great(a, i);
+            let y = great(b, i);
+            if x != y {
+                if x < y {
+                    return Order::Less;
+                }
+                return Order::Greater;
+            }
+            i += 8;
+        }
+        let x = great(a, last);
+        let y = great(b, last);
+        if x != y {
+            if x < y {
+                return Order::Less;
+            }
+            return Order::Greater;
+        }
+        i = n;
+    }
     while i < a.len() {
         if i >= b.len() {
             return Order::Greater;

@@ -1,6 +1,7 @@
 // The node table: a formula as words in preorder (specs/Words.antt says what a word is).
 ghost use mathlib.Core.Path.{_≡_};
-ghost use lib.ListN.{replicate};
+ghost use lib.Dec.{eqb};
+ghost use lib.ListN.{length, replicate};
 ghost use Rattle.definitions.specs.Limits.{house};
 
 pub struct Table {
@@ -26,5 +27,14 @@ impl Table {
             nodes: [0u64; Table::WEIGHT],
             used: 0,
         }
+    }
+
+    // Whether a lent array has the length that its type gives it. It always has: this tells the prover, which knows no length behind a
+    // reference.
+    pub fn is_whole(nodes: &[u64; Table::WEIGHT]) -> bool
+        ensures { λ r. ⌜ r ≡ eqb (length (now (nodes .entry))) (house .weight) ⌝ }
+    {
+        let words: &[u64] = nodes;
+        words.len() == Table::WEIGHT
     }
 }

@@ -6,24 +6,19 @@ use Prim.Native.Nat.{ℕ, zero, suc, _+_, _-_, _≤_, _<_, min}
 use native.Mathlib.Numerals.{add-one}
 use native.Mathlib.Omega.{arith}
 use native.Mathlib.Nat.{min-eq-left, min-eq-right, le-of-lt}
-use borrow.Author.Tests.{eqb-true, leb-true, leb-false, le-leb, lt-leb}
-use lib.Dec.{eqb, leb}
+use borrow.Author.Tests.{leb-true, leb-false, le-leb, lt-leb}
+use lib.Dec.{leb}
 use lib.ListN.{length, take, drop, getD, length-take, length-append, List·getD-eq-default}
 use lib.Seq.{slice, slice-cons, take-all, take-length}
 use Rattle.definitions.specs.Bytes.{Bytes, TAB, LF, behind-each, decimal}
 use Rattle.definitions.specs.Laws.Bools.{by-cases, and-true-left, and-true-right}
-use Rattle.text.specs.Words.{kind-of, count-of, is-made, size-of, start-of, spell, Token, var-token, sign, token, tokens, kind, count, name}
+use Rattle.text.specs.Words.{kind-of, count-of, is-made, size-of, start-of, spell, token, tokens, count}
+use Rattle.text.specs.WordLaws.{other-word, kind-is, name-is}
 use Rattle.writer.specs.Writer.{fields, keywords, keyword-of, body, after, end, text-from, Puts}
 
 module _ (T M : Bytes) (w : ℕ) where
-  token-kind : kind (token T M w) ≡ kind-of w
-  token-kind = by-cases (eqb (kind-of w) 12) (λ t. rw t (sym (eqb-true (kind-of w) 12 t))) (λ f. rw f)
-
-  token-name : name (token T M w) ≡ spell T M w
-  token-name = by-cases (eqb (kind-of w) 12) (λ t. rw t) (λ f. rw f)
-
   token-count : kind-of w ≤ 11 → count (token T M w) ≡ count-of w
-  token-count h = by-cases (eqb (kind-of w) 12) (λ t. absurd (omega (arith, eqb-true (kind-of w) 12 t))) (λ f. rw f)
+  token-count h = ap count (other-word T M w (omega arith))
 
   -- a name of a table has at most 63 bytes
   pub short : length (spell T M w) ≤ 63
@@ -33,7 +28,7 @@ module _ (T M : Bytes) (w : ℕ) where
   pub body-due : (n : ℕ) → 0 < n → body n (token T M w) ≡ TAB ∷ spell T M w
   unfolding body
   body-due zero h = absurd (omega arith)
-  body-due (suc n) h = ap (λ (s : Bytes). TAB ∷ s) token-name
+  body-due (suc n) h = ap (λ (s : Bytes). TAB ∷ s) (name-is T M w)
 
   pub after-due : (n : ℕ) → 0 < n → after n (token T M w) ≡ n - 1
   unfolding after
@@ -43,29 +38,29 @@ module _ (T M : Bytes) (w : ℕ) where
   -- where a line begins
   pub after-plain : kind-of w ≤ 7 → after 0 (token T M w) ≡ 0
   unfolding after
-  after-plain h = rw (token-kind, le-leb (kind-of w) 7 h)
+  after-plain h = rw (kind-is T M w, le-leb (kind-of w) 7 h)
 
   pub after-block : 7 < kind-of w → kind-of w ≤ 9 → after 0 (token T M w) ≡ count-of w
   unfolding after
-  after-block h k = rw (token-kind, lt-leb (kind-of w) 7 h, le-leb (kind-of w) 9 k) (token-count (omega arith))
+  after-block h k = rw (kind-is T M w, lt-leb (kind-of w) 7 h, le-leb (kind-of w) 9 k) (token-count (omega arith))
 
   pub after-symbol : 9 < kind-of w → after 0 (token T M w) ≡ 0
   unfolding after
-  after-symbol h = rw (token-kind, lt-leb (kind-of w) 7 (omega arith), lt-leb (kind-of w) 9 h)
+  after-symbol h = rw (kind-is T M w, lt-leb (kind-of w) 7 (omega arith), lt-leb (kind-of w) 9 h)
 
   pub body-plain : kind-of w ≤ 9 → body 0 (token T M w) ≡ keyword-of (kind-of w)
   unfolding body behind-each
-  body-plain h = rw (token-kind, le-leb (kind-of w) 9 h) (append-nil (keyword-of (kind-of w)))
+  body-plain h = rw (kind-is T M w, le-leb (kind-of w) 9 h) (append-nil (keyword-of (kind-of w)))
 
   pub body-counted : 9 < kind-of w → kind-of w ≤ 11
       → body 0 (token T M w) ≡ keyword-of (kind-of w) ++ ((TAB ∷ spell T M w) ++ (TAB ∷ decimal (count-of w)))
   unfolding body behind-each
   body-counted h k =
-      rw (token-kind, lt-leb (kind-of w) 9 h, le-leb (kind-of w) 11 k, token-name, token-count k, append-nil (decimal (count-of w)))
+      rw (kind-is T M w, lt-leb (kind-of w) 9 h, le-leb (kind-of w) 11 k, name-is T M w, token-count k, append-nil (decimal (count-of w)))
 
   pub body-named : 11 < kind-of w → body 0 (token T M w) ≡ keyword-of (kind-of w) ++ (TAB ∷ spell T M w)
   unfolding body behind-each
-  body-named h = rw (token-kind, lt-leb (kind-of w) 9 (omega arith), lt-leb (kind-of w) 11 h, token-name, append-nil (spell T M w))
+  body-named h = rw (kind-is T M w, lt-leb (kind-of w) 9 (omega arith), lt-leb (kind-of w) 11 h, name-is T M w, append-nil (spell T M w))
 
   -- their lengths
   pub length-counted : 9 < kind-of w → kind-of w ≤ 11

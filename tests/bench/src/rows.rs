@@ -1,5 +1,5 @@
 //! The rules that are timed: a small one, a site's, and the worst that were found for each conversion.
-use crate::rules::{atoms, balanced, colliding, heavy, heavy_negated, iff_chain, in_turn, lines, nested, pairs, plain_atoms, side_by_side};
+use crate::rules::{atoms, balanced, colliding, heavy, heavy_negated, iff_chain, in_turn, lines, nested, pairs, plain_atoms, rebinding, side_by_side};
 use wasileko::{convert, Conversion};
 
 /// A row of the table: what it is, and the rules that are converted in turn.
@@ -58,6 +58,8 @@ pub fn rows(conversion: Conversion) -> Vec<Row> {
         Conversion::Simplify => vec![
             ("58 nested blocks over 348 names", nested("all", 58, 6)),
             ("15 nested blocks over 480 names", nested("all", 15, 32)),
+            ("17 blocks of the same 32 names", rebinding("all", 17, 32)),
+            ("30 blocks of the same 16 names", rebinding("all", 30, 16)),
             ("weight 1,024", heavy()),
         ],
         Conversion::Nnf => vec![("iff chain of 8 atoms", iff_chain(8)), ("weight 1,023", heavy_negated())],

@@ -81,6 +81,15 @@ pub fn nested(block: &str, count: usize, each: usize) -> String {
     blocks + &balanced("and", &used)
 }
 
+/// So many blocks of the same names, one in the other, over as many atoms of them all as there is room for. The names have 24 bytes and differ
+/// in the middle only.
+pub fn rebinding(block: &str, count: usize, each: usize) -> String {
+    let names: Vec<String> = (0..each).map(|at| format!("{}{at:03}{}", "v".repeat(11), "v".repeat(10))).collect();
+    let blocks = format!("{block} {} / ", names.join(" ")).repeat(count);
+    let room = 1024 - count * (each + 1);
+    blocks + &balanced("and", &vec![atom("P", &names); (room + 1) / (each + 2)])
+}
+
 /// 204 blocks side by side, each of its own name.
 pub fn side_by_side(block: &str) -> String {
     let group = |name: &String| format!("{block} {name} / {}", atom("P", &[name.clone()]));

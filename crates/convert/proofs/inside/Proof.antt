@@ -17,4 +17,4 @@ inside-spec =
     (λ c. λ m. is-refused (was-large _ _ (c .before .before .before .read .ensures .0) (c .before .verdict2 .given .1) _) refl)  -- returns-2
     (λ c. search needs)  -- same-length
     (λ c. search needs)  -- same-length-2
-    (λ c. λ m. let t = was-tree _ _ (c .before .before .before .before .before .before .before .before .before .before .read .ensures .0) (c .before .before .before .before .before .before .before .before .enum-told .given .1) _ in as-well (sym (t .2)) (c .before .before .before .before .staged .ensures m (t .0) (t .1))))  -- returns-3
+    (λ c. λ m. let t = was-tree _ _ (c .before .before .before .before .before .before .before .before .before .before .before .read .ensures .0) (c .before .before .before .before .before .before .before .before .before .enum-told .given .1) _ in as-well (sym (t .2)) (c .before .before .before .before .staged .ensures m (t .0) (t .1))))  -- returns-3

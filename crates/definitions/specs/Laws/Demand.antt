@@ -21,7 +21,8 @@ use Rattle.definitions.specs.Laws.Bools.{and-true-left, same-truth}
 use Rattle.definitions.specs.Laws.Simplify.{simplify-truth}
 use Rattle.definitions.specs.Laws.Negation.{nnf-truth}
 use Rattle.definitions.specs.Laws.Prenex.{outward-no-block, pnf-truth}
-use Rattle.definitions.specs.Laws.Skolem.{Fresh-for, New, drawn-fresh, skolem-iff, skolem-one}
+use Rattle.definitions.specs.Laws.OneBlock.{New}
+use Rattle.definitions.specs.Laws.Skolem.{Fresh-for, drawn-fresh, skolem-iff, skolem-one}
 use Rattle.definitions.specs.Laws.Hashes.{hash-free-new, pnf-new}
 use Rattle.definitions.specs.Laws.Sorted.{sorted}
 use Rattle.definitions.specs.Laws.Shapes.{close-parted, parted-close, skolemise-no-block, snf-skolem}

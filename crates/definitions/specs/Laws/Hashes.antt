@@ -13,7 +13,7 @@ use Rattle.definitions.specs.Skolem.{Counts, constant-name, function-nam
 use Rattle.definitions.specs.Laws.Bools.{and-true-left, and-true-right, by-cases, clash, or-false-left, or-false-right}
 use Rattle.definitions.specs.Laws.Sets.{mem-append, same-eq}
 use Rattle.definitions.specs.Laws.Symbols.{sub-syms}
-use Rattle.definitions.specs.Laws.Skolem.{New}
+use Rattle.definitions.specs.Laws.OneBlock.{New}
 
 module _ (k : Sort) (n : Name) where
   abbrev Lacks : Formula → Type 0

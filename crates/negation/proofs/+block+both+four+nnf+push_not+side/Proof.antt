@@ -10,9 +10,11 @@ use borrow.Fn.PlainCycle.{Measures, is, falls, and}
 use Rattle.definitions.specs.Limits.{house}
 use Rattle.definitions.specs.Negation
 use Rattle.text.specs.Words.{token, sign, code}
+use Rattle.text.specs.WordLaws.{sign-word}
+use Rattle.text.specs.Shapes.{shaped-constant, shaped-block, no-shape}
 use Rattle.negation.proofs.RunLaws.{seq, again, stop, stop-write, safe-stop, safe-past, safe-at}
 use Rattle.negation.proofs.TermLaws.{over-sides, over-variables}
-use Rattle.negation.proofs.NodeLaws.{node, constant, block-node, no-kind, no-node, count-told, block-count}
+use Rattle.negation.proofs.NodeLaws.{by-node, node, nowhere}
 use Rattle.negation.proofs.block.Reads as block
 use Rattle.negation.proofs.block.Kinds as block-kinds
 use Rattle.negation.proofs.+block+both+four+nnf+push_not+side.Lts-block as block-lts
@@ -138,12 +140,12 @@ nnf-meets : {M : Type 1} (t : ℕ) → nnf-lts.Closed (nnf-calls t) (nnf-at t) n
 unfolding code Negation.nnf Negation.push-not
 nnf-meets t =
     nnf-lts.spec (nnf-calls t) (nnf-at t) nnf.Post
-    (λ c. (safe-stop (c .before .pre .1 .0) refl, λ T M. no-node T M _ (c .before .pre .1 .1) (c .if1 .taken)))
+    (λ c. (safe-stop (c .before .pre .1 .0) refl, λ T M. nowhere T M _ (c .before .pre .1 .1) (c .if1 .taken)))
     (λ c. omega arith)
     (λ c. omega arith)
     (λ c. omega arith)
     (λ c κs. omega arith)
-    (λ c. (safe-at (c .put .ensures .0 .0) (omega arith) (omega arith), λ T M. constant T M _ _ (record { size = omega arith; below = omega arith; kind = refl }) (c .before .before .if2 .taken) (λ w. rw (← w) (c .put .ensures .1 T M _)) (λ w. rw (← w) (c .put .ensures .1 T M _))))
+    (λ c. (safe-at (c .put .ensures .0 .0) (omega arith) (omega arith), λ T M. by-node T M _ (record { size = omega arith; below = omega arith; kind = refl }) (shaped-constant (c .before .before .if2 .taken) (λ w. rw (← w) (c .put .ensures .1 T M _)) (λ w. rw (← w) (c .put .ensures .1 T M _)))))
     (λ c. omega arith)
     (λ c κs. omega arith)
     (λ c. (safe-past (omega arith) (c .push-not .ensures .0), λ T M. node T M _ 2 (omega arith) (λ a w. c .push-not .ensures .1 T M a)))
@@ -164,12 +166,12 @@ nnf-meets t =
     (λ c. (safe-past (omega arith) (c .with-terms .ensures .0), λ T M. node T M _ 7 (omega arith) (λ t u w. over-sides (λ ks. sign 7 0 [] ∷ ks) t u (λ ts e. rw w at (c .with-terms .ensures .1 T M ts e)))))
     (λ c. omega arith)
     (λ c κs. omega arith)
-    (λ c. (safe-past (omega arith) (c .block .ensures .0), λ T M. block-node T M _ _ (record { size = omega arith; below = omega arith; kind = refl }) (omega arith) (omega arith) (λ q vs a w. rw w at (c .block .ensures .1 T M vs a (sym (block-count T M _ q w))))))
+    (λ c. (safe-past (omega arith) (c .block .ensures .0), λ T M. by-node T M _ (record { size = omega arith; below = omega arith; kind = refl }) (shaped-block (omega arith) (omega arith) (λ q e vs n a w. rw w at (c .block .ensures .1 T M vs a n)))))
     (λ c. omega arith)
     (λ c κs. tt)
     (λ c κs. omega arith)
-    (λ c. (safe-past (omega arith) (c .with-terms2 .ensures .0), λ T M. node T M _ 10 (omega arith) (λ p ts w. rw w at (c .with-terms2 .ensures .1 T M ts (sym (count-told T M _ (omega arith) w) ∙ sym (c .before .before .count .ensures .0))))))
-    (λ c. (safe-stop (omega arith) refl, λ T M. no-kind T M _ _ (record { size = omega arith; below = omega arith; kind = refl }) (omega arith)))
+    (λ c. (safe-past (omega arith) (c .with-terms2 .ensures .0), λ T M. node T M _ 10 (omega arith) (λ p ts n w. rw w at (c .with-terms2 .ensures .1 T M ts (n ∙ sym (c .before .before .count .ensures .0))))))
+    (λ c. (safe-stop (omega arith) refl, λ T M. by-node T M _ (record { size = omega arith; below = omega arith; kind = refl }) (no-shape (omega arith))))
 
 abbrev push-not-calls : ℕ → push-not-lts.Claims
 push-not-calls t = (put-reads.Asked, put-reads.Learnt, nnf-below t, nnf.Post, both-below t, both.Post, four-below t, four.Post, negated-reads.Asked, negated-reads.Learnt, flipped-reads.Asked, flipped-reads.Learnt, block-below t, block.Post, count-reads.Asked, count-reads.Learnt)
@@ -178,7 +180,7 @@ push-not-meets : {M : Type 1} (t : ℕ) → push-not-lts.Closed (push-not-calls 
 unfolding code Negation.nnf Negation.push-not
 push-not-meets t =
     push-not-lts.spec (push-not-calls t) (push-not-at t) push-not.Post
-    (λ c. (safe-stop (c .before .pre .1 .0) refl, λ T M. no-node T M _ (c .before .pre .1 .1) (c .if1 .taken)))
+    (λ c. (safe-stop (c .before .pre .1 .0) refl, λ T M. nowhere T M _ (c .before .pre .1 .1) (c .if1 .taken)))
     (λ c. omega arith)
     (λ c. omega arith)
     (λ c. omega arith)
@@ -208,12 +210,12 @@ push-not-meets t =
     (λ c. omega arith)
     (λ c κs. tt)
     (λ c κs. omega arith)
-    (λ c. (safe-past (omega arith) (c .block .ensures .0), λ T M. block-node T M _ _ (record { size = omega arith; below = omega arith; kind = refl }) (omega arith) (omega arith) (λ q vs a w. let v = c .before .before .flipped .ensures T M q _ w in rw v at (c .block .ensures .1 T M vs a (sym (block-count T M _ (Negation.flip q) v))))))
+    (λ c. (safe-past (omega arith) (c .block .ensures .0), λ T M. by-node T M _ (record { size = omega arith; below = omega arith; kind = refl }) (shaped-block (omega arith) (omega arith) (λ q e vs n a w. let v = c .before .before .flipped .ensures T M q _ w in rw v at (c .block .ensures .1 T M vs a (sym (sign-word T M _ v .1)))))))
     (λ c. omega arith)
     (λ c κs. tt)
     (λ c κs. omega arith)
-    (λ c. (safe-past (omega arith) (c .negated2 .ensures .0), λ T M. node T M _ 10 (omega arith) (λ p ts w. rw w at (c .negated2 .ensures .1 T M ts (sym (count-told T M _ (omega arith) w) ∙ sym (c .before .before .count .ensures .0))))))
-    (λ c. (safe-stop (omega arith) refl, λ T M. no-kind T M _ _ (record { size = omega arith; below = omega arith; kind = refl }) (omega arith)))
+    (λ c. (safe-past (omega arith) (c .negated2 .ensures .0), λ T M. node T M _ 10 (omega arith) (λ p ts n w. rw w at (c .negated2 .ensures .1 T M ts (n ∙ sym (c .before .before .count .ensures .0))))))
+    (λ c. (safe-stop (omega arith) refl, λ T M. by-node T M _ (record { size = omega arith; below = omega arith; kind = refl }) (no-shape (omega arith))))
 
 abbrev side-calls : ℕ → side-lts.Claims
 side-calls t = (push-not-below t, push-not.Post, nnf-below t, nnf.Post)

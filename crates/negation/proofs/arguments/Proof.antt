@@ -1,7 +1,7 @@
 -- `negation::arguments` meets its contract.
 use native.Mathlib.Omega.{arith}
 use mathlib.Core.Path.{_∙_}
-use Rattle.negation.proofs.TermLaws.{behind-function, behind-other}
+use Rattle.text.specs.Arguments.{behind-function, behind-other}
 use Rattle.negation.proofs.arguments.Statement.{statement}
 use Rattle.negation.proofs.arguments.Tie as tie
 

@@ -4,8 +4,8 @@ use Prim.Native.Nat.{ℕ, _<_, _+_, _*_, _-_}
 use native.Mathlib.Omega.{arith}
 use mathlib.Core.Path.{refl, sym, _∙_}
 use Rattle.definitions.specs.Simplify.{simplify}
-use Rattle.text.specs.Words.{code}
-use Rattle.substitution.specs.Nodes.{sides, shaped-constant, shaped-not, shaped-binary, shaped-equation, shaped-block, shaped-predicate, no-shape}
+use Rattle.text.specs.Words.{code, sides}
+use Rattle.text.specs.Shapes.{shaped, shaped-constant, shaped-binary, shaped-block, no-shape}
 use Rattle.simplify.proofs.Pasting.{small-unmade}
 use Rattle.simplify.proofs.Reducing.{safe-here, safe-past, safe-word, safe-copy, at-node, no-node, word-written, atom-copied, equation-code, two-sides, reduces-as, turned-safe, turned-reduces, joined-safe, joined-reduces, block-safe, block-reduces, block-too-long}
 use borrow.Fn.Kinds.{In}
@@ -138,7 +138,7 @@ reduce-meets t =
     (λ c. (safe-word (omega arith) (omega arith), at-node (omega arith) (omega arith) (shaped-constant (c .if2 .taken) (word-written _ (omega arith) _) (word-written _ (omega arith) _))))
     (λ c. omega arith)
     (λ c κs. omega arith)
-    (λ c. (safe-past (omega arith) (c .opposite .ensures .0), at-node (omega arith) (omega arith) (shaped-not (omega arith) (λ f e. c .opposite .ensures .1 f))))
+    (λ c. (safe-past (omega arith) (c .opposite .ensures .0), at-node (omega arith) (omega arith) (shaped 2 (omega arith) (λ f e. c .opposite .ensures .1 f))))
     (λ c. omega arith)
     (λ c κs. omega arith)
     (λ c. (safe-past (omega arith) (c .joined .ensures .0), at-node (omega arith) (omega arith) (shaped-binary (omega arith) (omega arith) (λ o e f g h. c .joined .ensures .1 o f g e))))
@@ -147,7 +147,7 @@ reduce-meets t =
     (λ c. omega arith)
     (λ c. omega arith)
     (λ c κs. omega arith)
-    (λ c. (safe-copy (omega arith) (c .copy .ensures .0), at-node (omega arith) (omega arith) (shaped-equation (omega arith) (λ t u e. reduces-as (equation-code t u) (atom-copied _ (omega arith) _ (omega arith) (c .copy .ensures .0) (c .copy .ensures .1 _ _ (sides t u) (two-sides t u)) e)))))
+    (λ c. (safe-copy (omega arith) (c .copy .ensures .0), at-node (omega arith) (omega arith) (shaped 7 (omega arith) (λ t u e. reduces-as (equation-code t u) (atom-copied _ (omega arith) _ (omega arith) (c .copy .ensures .0) (c .copy .ensures .1 _ _ (sides t u) (two-sides t u)) e)))))
     (λ c. omega arith)
     (λ c κs. omega arith)
     (λ c. (safe-past (omega arith) (c .block .ensures .0), at-node (omega arith) (omega arith) (shaped-block (omega arith) (omega arith) (λ q e vs n f h. c .block .ensures .1 q vs f e n))))
@@ -157,7 +157,7 @@ reduce-meets t =
     (λ c κs. tt)
     (λ c. omega arith)
     (λ c κs. omega (arith, c .before .count .ensures .1))
-    (λ c. (safe-copy (omega arith) (c .copy2 .ensures .0), at-node (omega arith) (omega arith) (shaped-predicate (omega arith) (λ p ts n e. atom-copied _ (omega arith) _ (omega arith) (c .copy2 .ensures .0) (c .copy2 .ensures .1 _ _ ts (n ∙ sym (c .before .before .count .ensures .0))) e))))
+    (λ c. (safe-copy (omega arith) (c .copy2 .ensures .0), at-node (omega arith) (omega arith) (shaped 10 (omega arith) (λ p ts n e. atom-copied _ (omega arith) _ (omega arith) (c .copy2 .ensures .0) (c .copy2 .ensures .1 _ _ ts (n ∙ sym (c .before .before .count .ensures .0))) e))))
     (λ c. omega arith)
     (λ c. (safe-here _ (omega arith) (omega arith) (omega arith), at-node (omega arith) (omega arith) (no-shape (omega arith))))
 

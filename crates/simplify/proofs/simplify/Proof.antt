@@ -9,7 +9,6 @@ use Rattle.simplify.proofs.simplify.Tie as tie
 pub simplify-spec : {M : Type 1} → statement M
 simplify-spec =
     tie.close (tie.spec
-    (λ c κs. search needs)
-    (λ c. simplified-none (c .if1 .taken) (c .before .empty .ensures))
-    (λ c κs. omega arith)
-    (λ c. simplified (search needs) (search needs) (c .before .before .before .before .before .before .empty .ensures) refl (c .reduce .ensures .0) (c .reduce .ensures .1)))
+    (λ c. simplified-none (c .if1 .taken))  -- returns
+    (λ c κs. omega arith)  -- reduce-requires
+    (λ c. simplified (omega arith) refl (c .reduce .ensures .0) (c .reduce .ensures .1)))  -- returns-2

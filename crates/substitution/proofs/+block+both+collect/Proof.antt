@@ -6,7 +6,7 @@ use mathlib.Core.Path.{sym, _∙_}
 use borrow.Fn.Kinds.{In}
 use borrow.Fn.PlainCycle.{Measures, is, falls, and}
 use Rattle.definitions.specs.Names.{free}
-use Rattle.substitution.specs.Nodes.{shaped-constant, shaped-not, shaped-binary, shaped-equation, shaped-block, shaped-predicate, no-shape}
+use Rattle.text.specs.Shapes.{shaped, shaped-constant, shaped-binary, shaped-block, no-shape}
 use Rattle.substitution.proofs.Collecting.{collects-none, collects-on}
 use Rattle.substitution.proofs.Binding.{safe-here, safe-past, safe-on, at-node, no-node, two-sides, block-safe, block-collects, block-past}
 use Rattle.substitution.proofs.block.Reads as block
@@ -93,13 +93,13 @@ collect-meets t =
     (λ c. (safe-here _ (omega arith) (omega arith) (omega arith), at-node (omega arith) (omega arith) (shaped-constant (c .if2 .taken) collects-none collects-none)))
     (λ c. omega arith)
     (λ c κs. omega arith)
-    (λ c. (safe-past (omega arith) (c .collect .ensures .0), at-node (omega arith) (omega arith) (shaped-not (omega arith) (c .collect .ensures .1))))
+    (λ c. (safe-past (omega arith) (c .collect .ensures .0), at-node (omega arith) (omega arith) (shaped 2 (omega arith) (c .collect .ensures .1))))
     (λ c. omega arith)
     (λ c κs. omega arith)
     (λ c. (safe-past (omega arith) (c .both .ensures .0), at-node (omega arith) (omega arith) (shaped-binary (omega arith) (omega arith) (λ o e. c .both .ensures .1))))
     (λ c. omega arith)
     (λ c κs. omega arith)
-    (λ c. (safe-past (omega arith) (c .terms .ensures .0), at-node (omega arith) (omega arith) (shaped-equation (omega arith) (two-sides (c .terms .ensures .1)))))
+    (λ c. (safe-past (omega arith) (c .terms .ensures .0), at-node (omega arith) (omega arith) (shaped 7 (omega arith) (two-sides (c .terms .ensures .1)))))
     (λ c. omega arith)
     (λ c κs. tt)
     (λ c κs. omega arith)
@@ -107,7 +107,7 @@ collect-meets t =
     (λ c. omega arith)
     (λ c κs. tt)
     (λ c κs. omega (arith, c .before .count2 .ensures .1))
-    (λ c. (safe-past (omega arith) (c .terms2 .ensures .0), at-node (omega arith) (omega arith) (shaped-predicate (omega arith) (λ p ts h. c .terms2 .ensures .1 ts (h ∙ sym (c .before .before .count2 .ensures .0))))))
+    (λ c. (safe-past (omega arith) (c .terms2 .ensures .0), at-node (omega arith) (omega arith) (shaped 10 (omega arith) (λ p ts h. c .terms2 .ensures .1 ts (h ∙ sym (c .before .before .count2 .ensures .0))))))
     (λ c. omega arith)
     (λ c. (safe-here _ (omega arith) (omega arith) (omega arith), at-node (omega arith) (omega arith) (no-shape (omega arith))))
 

@@ -2,7 +2,7 @@
 use borrow.Author.Needs.{needs}
 use native.Mathlib.Omega.{arith}
 use mathlib.Core.Path.{_∙_}
-use Rattle.substitution.specs.Arguments.{behind-function, behind-other}
+use Rattle.text.specs.Arguments.{behind-function, behind-other}
 use Rattle.substitution.proofs.arguments.Statement.{statement}
 use Rattle.substitution.proofs.arguments.Tie as tie
 

@@ -14,5 +14,7 @@ add-if-atom-spec =
     (λ c. omega arith)  -- mul-add-atom
     (λ c. omega arith)  -- add-add-atom
     (λ c κs. search needs)  -- add-atom-requires
-    (λ c. let s = c .add-atom .ensures in let t = c .before .before in (s .0, s .1, rw (sym (t .before .atomic .ensures) ∙ t .if1 .taken) (s .2)))  -- returns
-    (λ c. let z = c .before .before .before .before .before in (z .pre .1, omega arith, rw (sym (c .before .atomic .ensures) ∙ c .if1 .left))))  -- returns-2
+    (λ c. let s = c .add-atom .ensures in let t = c .before .before in
+    let e = sym (t .before .atomic .ensures) ∙ t .if1 .taken in (s .0, λ h. rw e (s .1 (h e))))  -- returns
+    (λ c. let z = c .before .before .before .before .before in
+    ((z .pre .1, omega arith), λ h. rw (sym (c .before .atomic .ensures) ∙ c .if1 .left))))  -- returns-2

@@ -40,9 +40,9 @@ walk-meets t =
     (λ c κs. search needs)  -- number-requires
     (λ c κs. omega arith)  -- add-literal-requires
     (λ c. let n = c .before .before in let z = n .before .before .before .before .before in let a = z .args in let e = c .add-literal .ensures in (
-      (e .0, e .1),
+      e .0,
       λ p rest x i s. walk-leaf (a .plan .now) (a .at) (z .pre .1 .0) (omega (arith, n)) p rest x (a .k) i s (omega (arith, n)) (n .number .ensures)
-          (walked-one (a .clause .now) _ (a .used) _ _ (z .pre .1 .1) (z .pre .1 .2) (e .2)),
+          (walked-one (a .clause .now) _ (a .used) _ _ (z .pre .1 .1) (z .pre .1 .2) (e .1)),
     ))  -- returns-3
     (λ c. omega arith)  -- add-left
     (λ c κs. search needs)  -- entry-requires

@@ -7,7 +7,7 @@ use mathlib.Core.Path.{sym, ap, _∙_}
 use mathlib.Core.List.{List, _∷_}
 use lib.ListN.{drop, set}
 use Rattle.clauses.specs.Laying.{marked, leaf-word}
-use Rattle.clauses.proofs.Planned.{before-constant, before-not, before-atom, before-other, laid-as, two-laid}
+use Rattle.clauses.proofs.Laying.{before-constant, before-not, before-atom, before-other, laid-as, two-laid}
 use Rattle.clauses.proofs.plan.lay.Statement.{statement}
 use Rattle.clauses.proofs.plan.lay.Tie as tie
 

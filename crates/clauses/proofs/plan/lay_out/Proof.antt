@@ -8,7 +8,7 @@ use lib.ListN.{length, drop}
 use Rattle.text.specs.Words.{kind-of}
 use Rattle.clauses.specs.Laying.{marked, laid}
 use Rattle.clauses.proofs.Carry.{mid}
-use Rattle.clauses.proofs.Planned.{laid-none, laid-more}
+use Rattle.clauses.proofs.Laying.{laid-none, laid-more}
 use Rattle.clauses.proofs.plan.lay_out.Statement.{statement}
 use Rattle.clauses.proofs.plan.lay_out.Tie as tie
 

@@ -1,6 +1,6 @@
 use borrow.Author.Needs.{needs}
 use native.Mathlib.Omega.{arith}
-use Rattle.clauses.proofs.Planned.{put-first, put-nowhere}
+use Rattle.clauses.proofs.Laying.{put-first, put-nowhere}
 use Rattle.clauses.proofs.plan.negate.Statement.{statement}
 use Rattle.clauses.proofs.plan.negate.Tie as tie
 

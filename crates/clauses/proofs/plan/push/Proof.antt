@@ -1,5 +1,5 @@
 use borrow.Author.Needs.{needs}
-use Rattle.clauses.proofs.Planned.{pushed}
+use Rattle.clauses.proofs.Laying.{pushed}
 use Rattle.clauses.proofs.plan.push.Statement.{statement}
 use Rattle.clauses.proofs.plan.push.Tie as tie
 

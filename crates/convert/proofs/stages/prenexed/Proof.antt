@@ -16,7 +16,7 @@ prenexed-spec =
     (λ c. search needs)  -- enum-told-2
     (λ c. search needs)  -- enum-told-3
     (λ c. search needs)  -- enum-told-4
-    (λ c κs. search needs)  -- joined-requires
+    (λ c κs. search needs)  -- join-requires
     (λ c κs. search needs)  -- show-requires
     (λ c. search needs)  -- same-length
     (λ c. λ m f u. is-refused (pnf-tree f ∙ heavy-prenex _ (u .within) (c .before .before .before .before .outward .ensures .form m f u) (c .enum-told .given .1)) refl)  -- returns
@@ -27,7 +27,7 @@ prenexed-spec =
     (λ c. search needs)  -- same-length-4
     (λ c. search needs)  -- same-length-5
     (λ c. λ m f u.
-    let k = made-prenex _ (u .within) (c .before .before .before .before .before .before .before .before .before .before .outward .ensures .form m f u) (c .before .before .before .before .before .before .enum-told4 .given .1) in
+    let k = made-prenex _ (u .within) (c .before .before .before .before .before .before .before .before .before .before .before .before .before .before .before .before .outward .ensures .form m f u) (c .before .before .before .before .before .before .before .before .before .before .before .before .enum-told4 .given .1) in
     let a = k .3 in
     as-well (sym (pnf-tree f ∙ k .0)) (c .before .before .show .ensures _
-    (c .before .before .before .before .before .joined .ensures .form _ _ ((pnf f) .prefix) ((pnf f) .matrix) (k .1) (a .prefix-room) (a .blocks _ refl) (record { room = a .matrix-room; words = a .body _ refl })))))  -- returns-4
+    (c .before .before .before .before .before .before .before .join .ensures .form _ _ ((pnf f) .prefix) ((pnf f) .matrix) (k .1) (a .prefix-room) (a .blocks _ refl) (record { room = a .matrix-room; words = a .body _ refl })))))  -- returns-4

@@ -30,7 +30,7 @@ skolemised-spec =
     (λ c. search needs)  -- same-length-5
     (λ c. search needs)  -- same-length-6
     (λ c. λ m f u.
-    let o = c .before .before .before .before .before .before .before .before .before .before .before .outward .ensures in
-    let k = made-prenex _ (u .within) (o .form m f u) (c .before .before .before .before .before .before .before .enum-told4 .given .1) in
-    as-well (sym (clean-rule f _ (c .before .before .before .before .before .before .before .before .before .before .before .before .before .before .has-hash .ensures f (u .holds _ .words)) (c .before .before .before .before .before .before .before .before .before .before .before .before .before .if1 .left) ∙ k .0))
+    let o = c .before .before .before .before .before .before .before .before .before .before .before .before .before .before .outward .ensures in
+    let k = made-prenex _ (u .within) (o .form m f u) (c .before .before .before .before .before .before .before .before .before .before .enum-told4 .given .1) in
+    as-well (sym (clean-rule f _ (c .before .before .before .before .before .before .before .before .before .before .before .before .before .before .before .before .before .has-hash .ensures f (u .holds _ .words)) (c .before .before .before .before .before .before .before .before .before .before .before .before .before .before .before .before .if1 .left) ∙ k .0))
     (c .before .before .before .before .skolem-stage .ensures (omega (arith, m, o .size)) (o .count) (pnf f) (k .2) (k .3))))  -- returns-5

@@ -33,7 +33,7 @@ staged-spec =
     (λ c. λ m f u. by-name f (c .before .before .before .before .before .enum-told .given .1) (c .before .before .simplified .ensures f u))  -- returns
     (λ c. search needs)  -- same-length-3
     (λ c. search needs)  -- same-length-4
-    (λ c. λ m f u. by-name f (c .before .before .before .before .before .enum-told2 .given .1) (c .before .before .negated .ensures f u))  -- returns-2
+    (λ c. λ m f u. by-name f (c .before .before .before .before .before .enum-told2 .given .1) (c .before .before .negated .ensures _ f u))  -- returns-2
     (λ c. search needs)  -- same-length-5
     (λ c. search needs)  -- same-length-6
     (λ c. λ m f u. by-name f (c .before .before .before .before .before .before .before .enum-told3 .given .1) (c .before .before .before .before .prenexed .ensures m f u))  -- returns-3

@@ -1,7 +1,7 @@
 -- Only behind a function's word stand terms.
 use native.Mathlib.Omega.{arith}
 use mathlib.Core.Path.{_∙_}
-use Rattle.prenex.proofs.TermEnds.{behind-function, behind-other}
+use Rattle.text.specs.Arguments.{behind-function, behind-other}
 use Rattle.prenex.proofs.weight.arguments.Statement.{statement}
 use Rattle.prenex.proofs.weight.arguments.Tie as tie
 

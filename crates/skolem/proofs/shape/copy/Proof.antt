@@ -30,4 +30,4 @@ copy-spec =
     (λ c. search needs)  -- add-i
     (λ c. search needs)  -- loop-less
     (λ c. let a = c .before .before .before .args in let l = c .before .before .loop in (l .inv .0, l .inv .1, l .inv .2, omega arith, moved-on (omega arith) (l .inv .0) (l .inv .4)))  -- loop-again
-    (λ c. let a = c .before .before .args in let l = c .before .loop in moved-all (omega (arith, l .inv .3)) (l .inv .4)))  -- returns
+    (λ c. let a = c .before .before .args in let l = c .before .loop in (l .inv .4 .size, moved-all (omega (arith, l .inv .3)) (l .inv .4))))  -- returns
