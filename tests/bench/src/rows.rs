@@ -59,7 +59,7 @@ pub fn rows(conversion: Conversion) -> Vec<Row> {
             ("58 nested blocks over 348 names", nested("all", 58, 6)),
             ("15 nested blocks over 480 names", nested("all", 15, 32)),
             ("17 blocks of the same 32 names", rebinding("all", 17, 32)),
-            ("30 blocks of the same 16 names", rebinding("all", 30, 16)),
+            ("29 blocks of the same 32 names", rebinding("all", 29, 32)),
             ("weight 1,024", heavy()),
         ],
         Conversion::Nnf => vec![("iff chain of 8 atoms", iff_chain(8)), ("weight 1,023", heavy_negated())],
