@@ -1,4 +1,5 @@
--- Bytes that are compared some at a time: each is a digit of a number, the lowest first.
+-- Bytes that are compared some at a time: each is a digit of a number, the lowest first. Two such numbers are the same only if all their
+-- digits are, and the smaller one has the smaller digit at the highest place where they differ (`same-digits`, `smaller` in proofs/Numbers.antt).
 use mathlib.Core.Path.{_≡_}
 use Prim.Native.Nat.{ℕ, zero, suc, _+_, _*_, _-_, _<_}
 use lib.ListN.{getD}
