@@ -75,7 +75,7 @@ news_used (v ∷ vs) away used y m u =
     by_cases (same y (next away used v))
     (λ t. let w = same_eq y (next away used v) t in
     let (e, n) = next_used away used v (rw (← w) u) in
-    rw (w ∙ e) (or_left (same v v) (mem v vs) (same_refl v), n))
+    (or_left (same y v) (mem y vs) (ap (λ z. same z v) (w ∙ e) ∙ same_refl v), ap (λ z. mem z away) (w ∙ e) ∙ n))
     (λ f. let (a, b) = news_used vs away (next away used v ∷ used) y (rw f at m) (or_right (same y (next away used v)) (mem y used) u) in
     (or_right (same y v) (mem y vs) a, b))
 
@@ -91,9 +91,10 @@ to_new [] away used x m = clash m refl
 to_new (v ∷ vs) away used x m =
     let w : Name = next away used v in
     let ps : Pairs = renames vs away (w ∷ used) in
+    let z : Name = to (renames (v ∷ vs) away used) x in
     by_cases (mem x vs)
-    (λ t. rw (tail_at v vs away used x t) (or_right (same (to ps x) w) (mem (to ps x) (news ps)) (to_new vs away (w ∷ used) x t)))
-    (λ f. rw (head_at v vs away used x f (or_else (same x v) (mem x vs) m f)) (or_left (same w w) (mem w (news ps)) (same_refl w)))
+    (λ t. or_right (same z w) (mem z (news ps)) (ap (λ a. mem a (news ps)) (tail_at v vs away used x t) ∙ to_new vs away (w ∷ used) x t))
+    (λ f. or_left (same z w) (mem z (news ps)) (ap (λ a. same a w) (head_at v vs away used x f (or_else (same x v) (mem x vs) m f)) ∙ same_refl w))
 
 to_used : (vs away used : List Name) (x : Name) → mem x vs ≡ true → mem (to (renames vs away used) x) used ≡ true → to (renames vs away used) x ≡ x
 unfolding mem renames
