@@ -55,11 +55,13 @@ at_end (x ∷ s) (suc m) h = eqb-suc-suc m (length s) ∙ at_end s m (omega arit
 module _ (m : Manner) (s : Bytes) where
   pub name_none : length s ≡ 0 → false ≡ is_name house m s
   unfolding is_name
-  name_none = elim s [ [] ↦ λ e. refl | b ∷ r ↦ λ e. absurd (omega arith) ]
+  name_none = elim s as (λ (x : Bytes). length x ≡ 0 → false ≡ is_name house m x) [ [] ↦ λ e. refl | b ∷ r ↦ λ e. absurd (omega arith) ]
 
   pub name_parts : 0 < length s → is_name house m s ≡ (leb (length s) house.name && letter (get_or s 0 0) && null (behind m (drop 1 s)))
   unfolding is_name
-  name_parts = elim s [ [] ↦ λ h. absurd (omega arith) | b ∷ r ↦ λ h. refl ]
+  name_parts =
+      elim s as (λ (x : Bytes). 0 < length x → is_name house m x ≡ (leb (length x) house.name && letter (get_or x 0 0) && null (behind m (drop 1 x)))) [
+      [] ↦ λ h. absurd (omega arith) | b ∷ r ↦ λ h. refl ]
 
   pub name_ends : (i : ℕ) → 0 < length s → length s ≤ house.name → letter (get_or s 0 0) ≡ true → i ≤ length s → drop i s ≡ behind m (drop 1 s) → eqb i (length s) ≡ is_name house m s
   name_ends i h l e n d = at_end s i n ∙ ap null d ∙ sym (name_parts h ∙ rw (le-leb (length s) 24 l, e))

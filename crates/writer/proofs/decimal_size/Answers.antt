@@ -1,0 +1,15 @@
+-- The loop keeps that the digits counted, but one, and those of what is left are the number's.
+use borrow.Author.Rules.{rules}
+use native.Mathlib.Omega.{arith}
+use mathlib.Core.Path.{◌≡◌, ap, sym}
+use Prim.Native.Nat.{◌+◌, ◌≤◌}
+use lib.ListN.{length}
+use Rattle.definitions.specs.Bytes.{decimal}
+use Rattle.writer.specs.DigitLaws.{decimal_one, length_more}
+use Rattle.writer.proofs.decimal_size.Goals as goal
+
+pub loop-left-preserved : goal.loop-left-preserved
+loop-left-preserved c = let l = c.loop-left in omega (arith, length_more l.left (omega arith))
+
+pub returns : goal.returns
+returns c = let l = c.loop-left in omega (arith, ap length (decimal_one l.left (omega arith)))
