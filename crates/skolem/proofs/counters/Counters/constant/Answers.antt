@@ -1,0 +1,6 @@
+-- The count that is drawn from is the next one then.
+use borrow.Author.Rules.{rules}
+use Rattle.skolem.proofs.counters.Counters.constant.Goals as goal
+
+pub returns : goal.returns
+returns c = rw c.next.ensures

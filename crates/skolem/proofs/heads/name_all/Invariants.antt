@@ -1,0 +1,15 @@
+use borrow.Author.Rules.{rules}
+use borrow.Author.Tests.{not-true, not-false}
+use mathlib.Core.Path.{◌≡◌, ◌∙◌}
+use Prim.Native.Nat.{◌≤◌, ◌-◌}
+use lib.ListN.{length}
+use Rattle.definitions.specs.Limits.{house}
+use Rattle.skolem.proofs.Drawing.{Naming, naming_start, naming_stop, naming_on, naming_end}
+use Rattle.skolem.proofs.heads.name_all.Given as goal
+
+abbrev pub invariant-loop-i : goal.invariant-loop-i
+invariant-loop-i l =
+    (length l.initial.heads ≡ house.weight) × (l.used ≤ house.weight) × Naming l.initial.heads l.used l.initial.made l.start l.initial.counts l.heads l.made l.at l.counts l.i
+
+abbrev pub decreases-loop-i : goal.decreases-loop-i
+decreases-loop-i l = l.used - l.i

@@ -1,0 +1,13 @@
+use borrow.Author.Rules.{rules}
+use borrow.Author.Tests.{not-true, not-false}
+use Prim.Native.Nat.{◌-◌, ◌≤◌}
+use lib.ListN.{length}
+use Rattle.skolem.proofs.LookLaws.{Looking, looking_start, past_header, past_one, ends_here, ends_last}
+use Rattle.skolem.proofs.shape.blocks_end.Given as goal
+
+abbrev pub invariant-loop-i : goal.invariant-loop-i
+invariant-loop-i l =
+    (l.used ≤ length l.nodes) × Looking l.nodes l.used l.left l.i
+
+abbrev pub decreases-loop-i : goal.decreases-loop-i
+decreases-loop-i l = l.used - l.i

@@ -1,0 +1,15 @@
+use borrow.Author.Rules.{rules}
+use native.Mathlib.Omega.{arith}
+use mathlib.Core.Path.{◌≡◌}
+use Prim.Native.Nat.{◌-◌, ◌≤◌}
+use lib.ListN.{length}
+use Rattle.definitions.specs.Limits.{house}
+use Rattle.skolem.proofs.LookLaws.{Moved, moved_none, moved_on, moved_all}
+use Rattle.skolem.proofs.shape.copy.Given as goal
+
+abbrev pub invariant-loop-i : goal.invariant-loop-i
+invariant-loop-i l =
+    (length l.nodes ≡ house.weight) × (l.from ≤ l.to) × (l.to ≤ house.weight) × (l.i ≤ l.to) × Moved l.nodes l.from l.i l.out
+
+abbrev pub decreases-loop-i : goal.decreases-loop-i
+decreases-loop-i l = l.to - l.i
