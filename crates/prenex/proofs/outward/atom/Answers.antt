@@ -1,0 +1,11 @@
+-- What is copied ends where the formula does.
+use borrow.Author.Rules.{rules}
+use native.Mathlib.Omega.{arith}
+use mathlib.Core.List.{[]}
+use Rattle.text.specs.Weights.{words_weight}
+use Rattle.prenex.proofs.outward.atom.Goals as goal
+
+pub returns : goal.returns
+returns c =
+    let y = c.copy.ensures in
+    (y.0, λ T end f rest p r. y.1 T end _ rest p r (omega (arith, c.weigh-end.ensures.next_is T [] f rest r.stream, words_weight f)))

@@ -1,0 +1,13 @@
+use borrow.Author.Rules.{rules}
+use native.Mathlib.Omega.{arith}
+use mathlib.Core.Path.{◌≡◌}
+use Prim.Native.Nat.{ℕ, ◌+◌, ◌-◌, ◌*◌, ◌≤◌}
+use Rattle.prenex.specs.Weights.{Ends}
+use Rattle.prenex.proofs.TermEnds.{none_due, source_ends, one_more}
+use Rattle.prenex.proofs.weight.terms.Given as goal
+
+abbrev pub invariant-loop-left : goal.invariant-loop-left
+invariant-loop-left l = (l.at ≤ l.next) × (l.next ≤ 1024) × (l.left ≤ 64 * (l.next + 1)) × ((r : ℕ) → Ends l.src l.next l.left r → Ends l.src l.at l.due r)
+
+abbrev pub decreases-loop-left : goal.decreases-loop-left
+decreases-loop-left l = 1024 - l.next
