@@ -30,6 +30,7 @@ same_length (more p e) = ap suc (same_length e)
 
 -- a place of the second list is one of the first
 here : {B : Type 0} {R : ℕ → B → Type 0} {l : List ℕ} {m : List B} {n : ℕ} {a : B} → Each R l m → At m n a → (n < length l) × R (get_or l n 0) a
+here {B = B} {R = R} {n = n} {a = a} none k = elim k [ ]
 here (more p e) first = (omega arith, p)
 here (more p e) (later k) = let h = here e k in (omega (arith, h.0), h.1)
 
