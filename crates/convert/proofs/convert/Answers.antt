@@ -1,0 +1,16 @@
+-- Refusal 9 leaves both buffers; else the answer is that of the inside, and work is cleared.
+use borrow.Author.Rules.{rules}
+use native.Mathlib.Omega.{arith}
+use mathlib.Core.Path.{refl, ap, ◌∙◌}
+use Prim.Native.Nat.{ℕ}
+use lib.ListN.{replicate}
+use Rattle.convert.proofs.Shown.{too_short, long_enough}
+use Rattle.convert.proofs.convert.Goals as goal
+
+pub returns-then-work-lt-WORK : goal.returns-then-work-lt-WORK
+returns-then-work-lt-WORK c = too_short _ _ _ _ (omega arith) refl
+
+pub returns : goal.returns
+returns c =
+    let w = c.if-work-lt-WORK.false in
+    long_enough _ _ _ _ (omega (arith, w)) (c.inside-r.ensures (omega (arith, w))) (c.clear.ensures ∙ ap (λ (n : ℕ). replicate n 0) c.inside-r.auto.made)
