@@ -14,7 +14,7 @@ mod stages;
 pub const WORK: usize = 32768;
 
 // Which conversion.
-#[derive(Drop)]
+#[derive(Clone, Copy)]
 pub enum Conversion {
     Simplify,
     Nnf,
@@ -28,7 +28,7 @@ pub enum Conversion {
 }
 
 // What a call answers: the text's length, or why there is none. specs/Answers.antt gives document 01's number and place for each.
-#[derive(Drop)]
+#[derive(Clone, Copy)]
 pub enum Answer {
     Length(usize),
     Room,

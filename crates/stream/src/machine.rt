@@ -24,7 +24,7 @@ const CONVERSIONS: usize = 9;
 const RULE: usize = 5;
 
 // Where the stream is: in the first line, in a file that is refused, in the second line, in a rule's label, in its text.
-#[derive(Drop)]
+#[derive(Clone, Copy)]
 pub enum Phase {
     First,
     Refused,
@@ -35,7 +35,7 @@ pub enum Phase {
 
 // The conversion is its place among the nine. `good` is whether the label is, `matched` how many bytes of `rule` TAB the line has
 // begun with, `label` how long the label is, and `size` how many bytes are kept: the first line; or the label, and behind it the text.
-#[derive(Drop)]
+#[derive(Clone, Copy)]
 pub struct State {
     pub phase: Phase,
     pub conversion: usize,
