@@ -1,0 +1,15 @@
+use borrow.Author.Rules.{rules}
+use native.Mathlib.Omega.{arith}
+use mathlib.Core.Path.{◌≡◌, refl, ap, ◌∙◌}
+use Prim.Native.Nat.{◌-◌}
+use lib.ListN.{length}
+use Rattle.stream.specs.Machine.{at}
+use Rattle.stream.proofs.PushLaws.{Running, running_first, running_step, running_ends, running_prints}
+use Rattle.stream.proofs.push.Given as goal
+
+abbrev pub invariant-loop-i : goal.invariant-loop-i
+invariant-loop-i l =
+    Running (at l.initial.s l.initial.kept) l.piece l.from l.s l.kept l.i × (l.out ≡ l.initial.out) × (l.work ≡ l.initial.work) × (length l.kept ≡ length l.initial.kept)
+
+abbrev pub decreases-loop-i : goal.decreases-loop-i
+decreases-loop-i l = length l.piece - l.i
