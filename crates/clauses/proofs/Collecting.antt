@@ -10,9 +10,9 @@ use lib.Seq.{drop-cons, get_or-set_same, drop-set-lt, take-set-le, take-take, ge
 use borrow.Author.Tests.{le-leb, lt-leb, leb-true, leb-false}
 use Rattle.definitions.specs.Bytes.{Bytes}
 use Rattle.definitions.specs.Order.{Atom, insert, set_of}
-use Rattle.definitions.specs.Laws.Bools.{by_cases, clash}
-use Rattle.definitions.specs.Laws.Order.{atom_orders}
-use Rattle.definitions.specs.Laws.Sorted.{set_of_sorted}
+use Rattle.definitions.proofs.Laws.Bools.{by_cases, clash}
+use Rattle.definitions.proofs.Laws.Order.{atom_orders}
+use Rattle.definitions.proofs.Laws.Sorted.{set_of_sorted}
 use Rattle.text.specs.Words.{kind_of_word}
 use Rattle.clauses.specs.Each.{Each, more, All}
 use Rattle.clauses.specs.Laying.{atomic}

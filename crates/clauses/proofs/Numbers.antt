@@ -6,7 +6,7 @@ use Prim.Native.Nat.{ℕ, zero, suc, ◌+◌, ◌*◌, ◌<◌, ◌≤◌, compa
 use native.Mathlib.Omega.{arith}
 use native.Mathlib.Nat.{mul-le-mul, mul-zero, zero-mul, min-eq_left}
 use native.Mathlib.Decide.{dec_le}
-use Rattle.definitions.specs.Laws.Order.{itself, compare_orders}
+use Rattle.definitions.proofs.Laws.Order.{itself, compare_orders}
 use Rattle.clauses.specs.Plans.{clamped}
 
 pub compare_lt : (a b : ℕ) → a < b → compare a b ≡ Ordering.lt

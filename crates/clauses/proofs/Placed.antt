@@ -9,7 +9,7 @@ use Rattle.definitions.specs.Bytes.{Bytes}
 use Rattle.definitions.specs.Syntax.{Op, and, or, imp, iff, Quant, all, ex, Formula, top, bot, pred, eq, neg, bin, blk, weight}
 use Rattle.definitions.specs.Order.{Atom, rel, same_as}
 use Rattle.definitions.specs.Clauses.{atom_formula}
-use Rattle.definitions.specs.Laws.Bools.{clash, and_true_left, and_true_right}
+use Rattle.definitions.proofs.Laws.Bools.{clash, and_true_left, and_true_right}
 use Rattle.definitions.specs.Laws.Shapes.{is_atom, and_or, negated}
 use Rattle.text.specs.Words.{Token, sign, tokens, op_kind, code}
 use Rattle.text.specs.Weights.{words_weight}

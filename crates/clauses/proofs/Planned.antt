@@ -8,7 +8,7 @@ use native.Mathlib.Omega.{arith}
 use lib.ListN.{length, get_or, length-append}
 use lib.Seq.{get_or-append_seam}
 use Rattle.definitions.specs.Syntax.{Term, var, con, app, Terms, nil, cons, term_weight, terms_weight, Op, and, or, imp, iff, Quant, all, ex, Formula, top, bot, pred, eq, neg, bin, blk, weight}
-use Rattle.definitions.specs.Laws.Bools.{clash, and_true_left, and_true_right}
+use Rattle.definitions.proofs.Laws.Bools.{clash, and_true_left, and_true_right}
 use Rattle.definitions.specs.Laws.Shapes.{is_atom, and_or, negated}
 use Rattle.definitions.specs.Prenex.{no_block}
 use Rattle.text.specs.Words.{Token, term_code, terms_code, op_kind, code, kind}

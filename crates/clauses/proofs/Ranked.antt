@@ -15,10 +15,10 @@ use Rattle.definitions.specs.Truth.{every, any}
 use Rattle.definitions.specs.Prenex.{no_block}
 use Rattle.definitions.specs.Order.{Atom, rel, same_as, Literal, pos, opp, Clause, cmp_atom, cmp_literal, set_of}
 use Rattle.definitions.specs.Clauses.{Raw, raw_of, raw_combine, raw_opposite, raw, constant, combine, opposite, distribute, atom_formula}
-use Rattle.definitions.specs.Laws.Bools.{clash, by_cases, and_true_left, and_true_right}
+use Rattle.definitions.proofs.Laws.Bools.{clash, by_cases, and_true_left, and_true_right}
 use Rattle.definitions.specs.Laws.Shapes.{is_atom, and_or, negated}
-use Rattle.definitions.specs.Laws.Order.{is_less, swap, Orders, itself, atom_orders}
-use Rattle.definitions.specs.Laws.Sorted.{above, sorted, has, has_in, has_out, set_of_has, set_of_sorted}
+use Rattle.definitions.proofs.Laws.Order.{is_less, swap, Orders, itself, atom_orders}
+use Rattle.definitions.proofs.Laws.Sorted.{above, sorted, has, has_in, has_out, set_of_has, set_of_sorted}
 use Rattle.text.specs.Words.{Token, var_token, sign, token, tokens, term_code, terms_code, op_kind, code, kind}
 use Rattle.text.specs.WordLaws.{map_take}
 use Rattle.text.specs.Streams.{behind_part}

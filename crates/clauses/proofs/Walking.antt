@@ -9,8 +9,8 @@ use native.Mathlib.Nat.{div-eq_of_lt, mod-eq_of_lt, div-lt_iff_lt-mul, mod-lt, m
 use lib.ListN.{length, take, drop, get_or, length-append, length-drop, get_or-append, drop_of_length-le}
 use lib.Seq.{drop-cons, drop-drop, drop_at, length-take-le}
 use Rattle.definitions.specs.Order.{insert, set_of}
-use Rattle.definitions.specs.Laws.Order.{compare_orders}
-use Rattle.definitions.specs.Laws.Sorted.{set_of_sorted, set_of_last, set_of_length}
+use Rattle.definitions.proofs.Laws.Order.{compare_orders}
+use Rattle.definitions.proofs.Laws.Sorted.{set_of_sorted, set_of_last, set_of_length}
 use Rattle.clauses.specs.Plans.{Plan, none, empty, leaf, sum, product, joined, made, counts, clamped, size, form, form_of, size_of, clauses_of, number_of, head, words}
 use Rattle.clauses.specs.Search.{Falls}
 use Rattle.clauses.specs.Steps.{Walked}

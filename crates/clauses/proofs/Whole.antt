@@ -15,10 +15,10 @@ use Rattle.definitions.specs.Prenex.{no_block}
 use Rattle.definitions.specs.Order.{Atom, Literal, Clause, cmp_atom, cmp_literal, cmp_clause, set_of}
 use Rattle.definitions.specs.Clauses.{distribute, clauses, raw, atom_formula}
 use Rattle.definitions.specs.Convert.{too_many}
-use Rattle.definitions.specs.Laws.Bools.{and_true_left, and_true_right, or_left, or_right}
-use Rattle.definitions.specs.Laws.Order.{atom_orders}
-use Rattle.definitions.specs.Laws.Sorted.{set_of_sorted, set_of_has}
-use Rattle.definitions.specs.Laws.Counts.{distribute_length, distribute_total}
+use Rattle.definitions.proofs.Laws.Bools.{and_true_left, and_true_right, or_left, or_right}
+use Rattle.definitions.proofs.Laws.Order.{atom_orders}
+use Rattle.definitions.proofs.Laws.Sorted.{set_of_sorted, set_of_has}
+use Rattle.definitions.proofs.Laws.Counts.{distribute_length, distribute_total}
 use Rattle.definitions.specs.Laws.Shapes.{negated, ready}
 use Rattle.text.specs.Words.{Token, tokens, token, kind_of_word, code, kind}
 use Rattle.text.specs.Weights.{words_weight}

@@ -10,7 +10,7 @@ use Rattle.definitions.specs.Bytes.{Bytes}
 use Rattle.definitions.specs.Syntax.{Formula, weight}
 use Rattle.definitions.specs.Limits.{house}
 use Rattle.definitions.specs.Prenex.{Prefix, plain, more, close}
-use Rattle.definitions.specs.Laws.Bools.{and_true_left, and_true_right, not_flip}
+use Rattle.definitions.proofs.Laws.Bools.{and_true_left, and_true_right, not_flip}
 use Rattle.text.specs.Words.{Token, token, tokens, code, block_code, is_made}
 use Rattle.text.specs.Weights.{words_weight}
 use Rattle.text.specs.Tables.{as_table, Holds}

@@ -20,11 +20,13 @@ use Rattle.definitions.specs.Skolem as form
 use Rattle.definitions.specs.Negation.{nnf}
 use Rattle.definitions.specs.Clauses.{raw, clauses, listing}
 use Rattle.definitions.specs.Convert.{Result, given, refused, refused_if, too_large, too_long, too_many, stage, through_prenex, through_skolem, as_clauses, snf, convert_tree, to_pnf, to_snf, to_cnf, to_dnf, snf_to_cnf, snf_to_dnf}
-use Rattle.definitions.specs.Laws.Bools.{by_cases, or_false_left, or_false_right, not_flip}
+use Rattle.definitions.proofs.Laws.Bools.{by_cases, or_false_left, or_false_right, not_flip}
 use Rattle.definitions.specs.Laws.Within.{Within}
-use Rattle.definitions.specs.Laws.Kept.{each, simplify_each, nnf_each, widest_most, variables_each}
-use Rattle.definitions.specs.Laws.Passing.{short, few, good_each, each_stage, simplify_stage}
-use Rattle.definitions.specs.Laws.Outward.{outward_widest}
+use Rattle.definitions.specs.Laws.Kept.{each}
+use Rattle.definitions.proofs.Laws.Kept.{simplify_each, nnf_each, widest_most, variables_each}
+use Rattle.definitions.specs.Laws.Passing.{short, few}
+use Rattle.definitions.proofs.Laws.Passing.{good_each, each_stage, simplify_stage}
+use Rattle.definitions.proofs.Laws.Outward.{outward_widest}
 use Rattle.text.specs.Words.{tokens}
 use Rattle.text.specs.Tables.{as_table, Holds}
 use Rattle.text.specs.Prefixes.{prefix_code, Apart}

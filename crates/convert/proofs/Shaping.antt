@@ -9,11 +9,13 @@ use Rattle.definitions.specs.Limits.{house}
 use Rattle.definitions.specs.Prenex.{Prenex, formula, no_block, all_only, parted, is_prenex_form, is_skolem}
 use Rattle.definitions.specs.Skolem.{skolem_formula, hash_free}
 use Rattle.definitions.specs.Convert.{Result, refused, stage, as_clauses, through_prenex, through_skolem, snf, snf_of_prenex, pnf_to_snf, convert_tree}
-use Rattle.definitions.specs.Laws.Bools.{and_true_left}
+use Rattle.definitions.proofs.Laws.Bools.{and_true_left}
 use Rattle.definitions.specs.Laws.Within.{Within}
-use Rattle.definitions.specs.Laws.Kept.{each, variables_each}
-use Rattle.definitions.specs.Laws.Passing.{short, few, good_each}
-use Rattle.definitions.specs.Laws.Shapes.{close_parted}
+use Rattle.definitions.specs.Laws.Kept.{each}
+use Rattle.definitions.proofs.Laws.Kept.{variables_each}
+use Rattle.definitions.specs.Laws.Passing.{short, few}
+use Rattle.definitions.proofs.Laws.Passing.{good_each}
+use Rattle.definitions.proofs.Laws.Shapes.{close_parted}
 use Rattle.clauses.specs.Laying.{marked}
 use Rattle.skolem.specs.declared.shape.Shape.{Shape}
 use Rattle.skolem.specs.declared.shape.Shape.TheVariants as shapes

@@ -18,8 +18,8 @@ use Rattle.definitions.specs.Negation.{nnf}
 use Rattle.definitions.specs.Skolem.{Skolemised}
 use Rattle.definitions.specs.Convert.{to_simplified, to_nnf, Result, given, refused, not_given, fitted, laid, convert, convert_tree, convert_reading, answer, out_after, work_after}
 use Rattle.definitions.specs.Laws.Within.{Within}
-use Rattle.definitions.specs.Laws.Reading.{read_iff}
-use Rattle.definitions.specs.Laws.Passing.{simplify_stage, nnf_stage}
+use Rattle.definitions.proofs.Laws.Reading.{read_iff}
+use Rattle.definitions.proofs.Laws.Passing.{simplify_stage, nnf_stage}
 use Rattle.text.specs.declared.table.Table.{Table}
 use Rattle.writer.specs.declared.Written.{Written}
 use Rattle.reader.specs.declared.Outcome.{Outcome}

@@ -12,9 +12,10 @@ use Rattle.definitions.specs.Names.{mem, filter, without, union, term_vars, term
 use Rattle.definitions.specs.Truth.{every}
 use Rattle.definitions.specs.Prenex.{Subst, shade, term_sub, terms_sub, sub, Prefix, plain, more, Prenex, close, formula, shades}
 use Rattle.definitions.specs.Skolem.{Counts, Skolemised, skolem_term, as_vars, put, arguments, skolem, skolemise, skolem_formula, first_number, counts_after}
-use Rattle.definitions.specs.Laws.Bools.{by_cases, and_both, and_true_left, and_true_right, clash}
-use Rattle.definitions.specs.Laws.Sets.{same_eq}
-use Rattle.definitions.specs.Laws.Kept.{term_each, terms_each, each, every_append, every_filter, variables_each}
+use Rattle.definitions.proofs.Laws.Bools.{by_cases, and_both, and_true_left, and_true_right, clash}
+use Rattle.definitions.proofs.Laws.Sets.{same_eq}
+use Rattle.definitions.specs.Laws.Kept.{term_each, terms_each, each}
+use Rattle.definitions.proofs.Laws.Kept.{every_append, every_filter, variables_each}
 
 abbrev any : ℕ → Bool
 any n = true

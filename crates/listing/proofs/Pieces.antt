@@ -10,7 +10,7 @@ use lib.Seq.{slice, take-length}
 use Rattle.definitions.specs.Bytes.{Bytes, TAB, LF, decimal}
 use Rattle.definitions.specs.Clauses.{counted_line}
 use Rattle.definitions.specs.Convert.{accepted}
-use Rattle.definitions.specs.Laws.Bools.{by_cases}
+use Rattle.definitions.proofs.Laws.Bools.{by_cases}
 use Rattle.writer.specs.declared.Written.{Written}
 use Rattle.writer.specs.declared.Written.TheVariants.{Length, NoRoom}
 use Rattle.text.specs.Words.{tokens}

@@ -8,10 +8,10 @@ use Rattle.definitions.specs.Bytes.{same}
 use Rattle.definitions.specs.Syntax.{Name, Formula}
 use Rattle.definitions.specs.Names.{mem, free, bound}
 use Rattle.definitions.specs.Prenex.{fresh, Pairs, pair, olds, news, to, renames, next, sub, Prefix, plain, more, Prenex, close, add, shades, apart, as_subst, no_block}
-use Rattle.definitions.specs.Laws.Bools.{by_cases, clash, or_false_left, or_false_right, same_truth}
-use Rattle.definitions.specs.Laws.Sets.{same_eq, same_refl, mem_append}
-use Rattle.definitions.specs.Laws.Fresh.{fresh_new}
-use Rattle.definitions.specs.Laws.Prenex.{sub_no_block}
+use Rattle.definitions.proofs.Laws.Bools.{by_cases, clash, or_false_left, or_false_right, same_truth}
+use Rattle.definitions.proofs.Laws.Sets.{same_eq, same_refl, mem_append}
+use Rattle.definitions.proofs.Laws.Fresh.{fresh_new}
+use Rattle.definitions.proofs.Laws.Prenex.{sub_no_block}
 use Rattle.text.specs.Words.{Token, var_token, sign, block_kind, code}
 use Rattle.text.specs.Prefixes.{names, prefix_code}
 use Rattle.prenex.specs.Walk.{put, behind, is_free, reach, new_name, walk}

@@ -8,7 +8,7 @@ use native.Mathlib.Numerals.{add-one}
 use lib.ListN.{length, take, get_or, set, length-set, length-map, length-append, length-drop}
 use lib.Seq.{slice, slice_empty, take-suc-set, take-append_seam}
 use Rattle.definitions.specs.Bytes.{Bytes}
-use Rattle.definitions.specs.Laws.Bools.{clash}
+use Rattle.definitions.proofs.Laws.Bools.{clash}
 use Rattle.text.specs.Words.{Token, is_made, token, tokens}
 use Rattle.text.specs.WordLaws.{map_drop}
 use Rattle.prenex.specs.Tables.{Known, AllKnown}

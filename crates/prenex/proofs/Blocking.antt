@@ -12,7 +12,7 @@ use borrow.Author.Tests.{eqb-true, eqb-false}
 use Rattle.definitions.specs.Bytes.{Bytes}
 use Rattle.definitions.specs.Syntax.{Name}
 use Rattle.definitions.specs.Prenex.{longest}
-use Rattle.definitions.specs.Laws.Bools.{by_cases}
+use Rattle.definitions.proofs.Laws.Bools.{by_cases}
 use Rattle.text.specs.Words.{Token, var_token, sign, is_made, kind_of_word, count_of, spell, token, tokens}
 use Rattle.prenex.specs.Tables.{Slot, Places}
 use Rattle.prenex.specs.Writing.{Plain, Reads, text_name, Between, Lays, done, full, long, Blocks}

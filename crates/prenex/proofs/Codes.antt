@@ -6,8 +6,8 @@ use Prim.Native.Nat.{ℕ, suc}
 use Rattle.definitions.specs.Syntax.{Name, Term, var, con, app, Terms, nil, cons, count, Quant, Formula, top, bot, pred, eq, neg, bin, blk}
 use Rattle.definitions.specs.Names.{mem, term_vars, terms_vars, free, bound}
 use Rattle.definitions.specs.Prenex.{Subst, shade, term_sub, terms_sub, sub, Prefix, plain, more, close, shades, no_block}
-use Rattle.definitions.specs.Laws.Bools.{clash, and_true_left, and_true_right}
-use Rattle.definitions.specs.Laws.Sets.{mem_append, mem_union, mem_filter}
+use Rattle.definitions.proofs.Laws.Bools.{clash, and_true_left, and_true_right}
+use Rattle.definitions.proofs.Laws.Sets.{mem_append, mem_union, mem_filter}
 use Rattle.text.specs.Words.{Token, var_token, sign, term_code, terms_code, op_kind, code}
 use Rattle.text.specs.Prefixes.{names, prefix_code}
 use Rattle.text.specs.PrefixLaws.{names_append, names_vars}

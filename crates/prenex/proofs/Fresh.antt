@@ -9,8 +9,8 @@ use Rattle.definitions.specs.Bytes.{same}
 use Rattle.definitions.specs.Syntax.{Name}
 use Rattle.definitions.specs.Names.{mem}
 use Rattle.definitions.specs.Prenex.{ticked, longest, fresh_from, fresh}
-use Rattle.definitions.specs.Laws.Bools.{by_cases, clash}
-use Rattle.definitions.specs.Laws.Sets.{same_eq}
+use Rattle.definitions.proofs.Laws.Bools.{by_cases, clash}
+use Rattle.definitions.proofs.Laws.Sets.{same_eq}
 
 pub mem_longest : (x : Name) (l : List Name) → mem x l ≡ true → length x ≤ longest l
 unfolding mem longest

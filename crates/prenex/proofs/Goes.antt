@@ -11,7 +11,7 @@ use Rattle.definitions.specs.Bytes.{Bytes}
 use Rattle.definitions.specs.Syntax.{Name}
 use Rattle.definitions.specs.Names.{mem}
 use Rattle.definitions.specs.Prenex.{longest}
-use Rattle.definitions.specs.Laws.Bools.{clash}
+use Rattle.definitions.proofs.Laws.Bools.{clash}
 use Rattle.text.specs.Words.{Token, var_token, sign, kind_of_word, spell, token, tokens}
 use Rattle.text.specs.WordLaws.{variable_word, other_word}
 use Rattle.text.specs.Prefixes.{names}

@@ -8,8 +8,8 @@ use Rattle.definitions.specs.Bytes.{same}
 use Rattle.definitions.specs.Syntax.{Name}
 use Rattle.definitions.specs.Names.{mem}
 use Rattle.definitions.specs.Prenex.{longest}
-use Rattle.definitions.specs.Laws.Bools.{by_cases}
-use Rattle.definitions.specs.Laws.Sets.{same_eq}
+use Rattle.definitions.proofs.Laws.Bools.{by_cases}
+use Rattle.definitions.proofs.Laws.Sets.{same_eq}
 use Rattle.text.specs.Words.{Token, var_token, sign}
 use Rattle.text.specs.Prefixes.{names}
 use Rattle.prenex.specs.Walk.{put, is_free, reach, new_name, renamed, walk}

@@ -10,7 +10,7 @@ use lib.Seq.{paste, length-paste, drop-paste, length-take-le, take_at, drop_at, 
 use borrow.Author.Tests.{eqb-true, eqb-false}
 use Rattle.definitions.specs.Bytes.{Bytes}
 use Rattle.definitions.specs.Syntax.{Name}
-use Rattle.definitions.specs.Laws.Bools.{by_cases, clash}
+use Rattle.definitions.proofs.Laws.Bools.{by_cases, clash}
 use Rattle.text.specs.Words.{Token, var_token, kind_of_word, spell, tokens}
 use Rattle.text.specs.WordLaws.{variable_word}
 use Rattle.prenex.specs.Tables.{slot_word, padded, Slot, Known, AllKnown, Places}

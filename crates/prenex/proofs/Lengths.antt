@@ -12,7 +12,7 @@ use borrow.Author.Tests.{le-ltb, lt-ltb, ltb-true, ltb-false}
 use Rattle.definitions.specs.Bytes.{Bytes}
 use Rattle.definitions.specs.Syntax.{Formula}
 use Rattle.definitions.specs.Prenex.{longest}
-use Rattle.definitions.specs.Laws.Bools.{by_cases, clash}
+use Rattle.definitions.proofs.Laws.Bools.{by_cases, clash}
 use Rattle.text.specs.declared.table.Table.{Table}
 use Rattle.text.specs.Tables.{Holds}
 use Rattle.text.specs.Words.{Token, is_made, kind_of_word, spell, token, tokens, code}

@@ -8,7 +8,7 @@ use Rattle.definitions.specs.Syntax.{Op, and, or, imp, iff, Quant, all, ex, Form
 use Rattle.definitions.specs.Names.{free, bound}
 use Rattle.definitions.specs.Negation.{flip}
 use Rattle.definitions.specs.Prenex.{news, Subst, shade, sub, Prefix, plain, more, Prenex, close, add, shades, apart, as_subst, premise, pull_right, pull, merge, flips, no_block}
-use Rattle.definitions.specs.Laws.Prenex.{sub_no_block}
+use Rattle.definitions.proofs.Laws.Prenex.{sub_no_block}
 use Rattle.text.specs.Words.{Token, var_token, sign, op_kind, block_kind, code}
 use Rattle.text.specs.Prefixes.{prefix_code}
 use Rattle.prenex.specs.Walk.{Side, left_apart, right_apart, turning, left_sign, each, coded}

@@ -13,8 +13,8 @@ use Rattle.definitions.specs.Bytes.{Bytes, same}
 use Rattle.definitions.specs.Syntax.{Name}
 use Rattle.definitions.specs.Names.{mem}
 use Rattle.definitions.specs.Prenex.{fresh}
-use Rattle.definitions.specs.Laws.Bools.{by_cases, clash}
-use Rattle.definitions.specs.Laws.Sets.{same_eq}
+use Rattle.definitions.proofs.Laws.Bools.{by_cases, clash}
+use Rattle.definitions.proofs.Laws.Sets.{same_eq}
 use Rattle.text.specs.Words.{Token, var_token, sign, kind_of_word, size_of, start_of, spell, token, tokens}
 use Rattle.text.specs.WordLaws.{variable_word}
 use Rattle.text.specs.Prefixes.{names}

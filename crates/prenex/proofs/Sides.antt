@@ -8,7 +8,7 @@ use native.Mathlib.Omega.{arith}
 use Rattle.definitions.specs.Bytes.{Bytes}
 use Rattle.definitions.specs.Syntax.{Op, and, imp, Formula}
 use Rattle.definitions.specs.Prenex.{outward}
-use Rattle.definitions.specs.Laws.Prenex.{outward_no_block}
+use Rattle.definitions.proofs.Laws.Prenex.{outward_no_block}
 use Rattle.text.specs.Words.{Token, token, op_kind, code}
 use Rattle.prenex.specs.Walk.{Side, left_sign, coded}
 use Rattle.prenex.specs.Renaming.{Walks, held, both_apart}

@@ -14,9 +14,9 @@ use Rattle.definitions.specs.Names.{mem, free, bound}
 use Rattle.definitions.specs.Truth.{every}
 use Rattle.definitions.specs.Prenex.{longest, Prefix, plain, more, Prenex, close, formula, merge, outward, no_block}
 use Rattle.definitions.specs.Convert.{too_long}
-use Rattle.definitions.specs.Laws.Bools.{or_right}
-use Rattle.definitions.specs.Laws.Sets.{mem_append, mem_head}
-use Rattle.definitions.specs.Laws.Prenex.{outward_no_block}
+use Rattle.definitions.proofs.Laws.Bools.{or_right}
+use Rattle.definitions.proofs.Laws.Sets.{mem_append, mem_head}
+use Rattle.definitions.proofs.Laws.Prenex.{outward_no_block}
 use Rattle.text.specs.Words.{Token, var_token, sign, block_kind, op_kind, term_code, code}
 use Rattle.text.specs.Weights.{term_words, terms_words, words_weight}
 use Rattle.text.specs.Prefixes.{names, prefix_code}

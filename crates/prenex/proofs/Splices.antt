@@ -9,7 +9,7 @@ use lib.Dec.{leb}
 use lib.ListN.{length, take, drop, get_or, set, length-append, length-take, length-drop, take-append-drop, drop_of_length-le}
 use lib.Seq.{slice, length-take-le, drop-cons, take-suc, take-nil, take-take, drop-drop, drop-append-le, take_at, drop_at, get_or_at, set_at, take-suc-set, take-set-lt, drop-set-lt}
 use borrow.Author.Tests.{leb-true, leb-false}
-use Rattle.definitions.specs.Laws.Bools.{by_cases}
+use Rattle.definitions.proofs.Laws.Bools.{by_cases}
 use Rattle.text.specs.Words.{Token}
 use Rattle.prenex.specs.Renaming.{splice, Beside, under, over}
 

@@ -8,7 +8,7 @@ use lib.ListN.{length, take, drop, get_or, length-append, length-map}
 use Rattle.definitions.specs.Bytes.{Bytes}
 use Rattle.definitions.specs.Syntax.{Name, Op, and, or, imp, iff, Quant, Formula, neg, bin, blk}
 use Rattle.definitions.specs.Prenex.{Prenex, merge, outward, no_block}
-use Rattle.definitions.specs.Laws.Prenex.{outward_no_block}
+use Rattle.definitions.proofs.Laws.Prenex.{outward_no_block}
 use Rattle.text.specs.Words.{Token, var_token, sign, token, tokens, count_of, op_kind, block_kind, code}
 use Rattle.text.specs.WordLaws.{sign_word}
 use Rattle.text.specs.Weights.{words_weight}

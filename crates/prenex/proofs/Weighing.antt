@@ -8,7 +8,7 @@ use lib.ListN.{length, drop, get_or, length-map}
 use borrow.Author.Tests.{leb-true, leb-false}
 use Rattle.definitions.specs.Bytes.{Bytes}
 use Rattle.definitions.specs.Syntax.{Name, count, terms_weight, Op, and, or, imp, iff, Formula, bin, weight}
-use Rattle.definitions.specs.Laws.Bools.{by_cases}
+use Rattle.definitions.proofs.Laws.Bools.{by_cases}
 use Rattle.text.specs.Words.{Token, var_token, tokens, count_of, op_kind, code, sides}
 use Rattle.text.specs.Weights.{words_weight}
 use Rattle.text.specs.Shapes.{shaped, shaped_constant, shaped_binary, shaped_block, no_shape}

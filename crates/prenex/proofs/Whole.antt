@@ -10,8 +10,8 @@ use borrow.Author.Tests.{leb-true, leb-false}
 use Rattle.definitions.specs.Bytes.{Bytes}
 use Rattle.definitions.specs.Syntax.{Formula, weight}
 use Rattle.definitions.specs.Prenex.{formula, outward}
-use Rattle.definitions.specs.Laws.Bools.{by_cases}
-use Rattle.definitions.specs.Laws.Prenex.{outward_no_block}
+use Rattle.definitions.proofs.Laws.Bools.{by_cases}
+use Rattle.definitions.proofs.Laws.Prenex.{outward_no_block}
 use Rattle.text.specs.declared.table.Table.{Table}
 use Rattle.text.specs.Tables.{as_table, Holds}
 use Rattle.text.specs.Wholes.{never_short}

@@ -10,8 +10,8 @@ use lib.Seq.{slice, slice-cons, take-take}
 use Rattle.definitions.specs.Bytes.{Bytes, same}
 use Rattle.definitions.specs.Syntax.{Name}
 use Rattle.definitions.specs.Names.{mem}
-use Rattle.definitions.specs.Laws.Bools.{by_cases}
-use Rattle.definitions.specs.Laws.Sets.{mem_append}
+use Rattle.definitions.proofs.Laws.Bools.{by_cases}
+use Rattle.definitions.proofs.Laws.Sets.{mem_append}
 use Rattle.text.specs.Words.{Token, var_token, sign, is_made, kind_of_word, count_of, size_of, start_of, spell, token, tokens}
 use Rattle.text.specs.WordLaws.{variable_word, other_word}
 use Rattle.text.specs.Prefixes.{names}

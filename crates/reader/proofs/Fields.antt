@@ -15,8 +15,8 @@ use Rattle.definitions.specs.Bytes.{Bytes, null, split, digits, decimal, number}
 use Rattle.definitions.specs.Limits.{house}
 use Rattle.definitions.specs.RuleText.{letter, digit, Manner, behind, variable_name, is_name, Node}
 use Rattle.definitions.specs.Reading.{counted, all_names}
-use Rattle.definitions.specs.Laws.Bools.{by_cases, and_true_left, and_true_right}
-use Rattle.definitions.specs.Laws.Decimal.{number_decimal, decimal_of_number}
+use Rattle.definitions.proofs.Laws.Bools.{by_cases, and_true_left, and_true_right}
+use Rattle.definitions.proofs.Laws.Decimal.{number_decimal, decimal_of_number}
 use Rattle.text.specs.Words.{word_of, kind_of_word, count_of, size_of, start_of, Token, var_token, sign}
 use Rattle.reader.specs.Lines.{upto, digit_value, tally, inside, all_inside, Stand, Lies}
 use Rattle.reader.proofs.Pieces.{piece, some_piece, first_piece, piece_length}

@@ -11,7 +11,7 @@ use Rattle.definitions.specs.Bytes.{Bytes, same}
 use Rattle.definitions.specs.Syntax.{Name, Quant, all, ex, and, or, imp, iff}
 use Rattle.definitions.specs.RuleText.{Node, top_node, bot_node, not_node, eq_node, bin_node, pred_node, fun_node, var_node, con_node}
 use Rattle.definitions.specs.Reading.{Kind, alone, blocks, applied, symbol, unknown, look_up, node_weight}
-use Rattle.definitions.specs.Laws.Bools.{by_cases}
+use Rattle.definitions.proofs.Laws.Bools.{by_cases}
 use Rattle.text.specs.Words.{sign, block_kind}
 use Rattle.reader.specs.Lines.{kind_from, kind_at, manner_at, arity_at, node_kind, node_parts, node_code}
 use Rattle.reader.proofs.Fields.{named}

@@ -13,7 +13,7 @@ use lib.Seq.{drop-cons, take_all, drop-drop, length-take-le}
 use Rattle.definitions.specs.Bytes.{Bytes, null, split, skip}
 use Rattle.definitions.specs.Limits.{house}
 use Rattle.definitions.specs.RuleText.{letter, Manner, behind, is_name}
-use Rattle.definitions.specs.Laws.Bools.{by_cases}
+use Rattle.definitions.proofs.Laws.Bools.{by_cases}
 use Rattle.reader.specs.Lines.{upto}
 
 -- The first b from a place on.

@@ -12,8 +12,8 @@ use Rattle.definitions.specs.Limits.{house}
 use Rattle.definitions.specs.Syntax.{Term, var, con, app, Terms, nil, cons, Formula, top, bot, pred, eq, neg, bin, blk}
 use Rattle.definitions.specs.RuleText.{Node, top_node, bot_node, not_node, eq_node, bin_node, block_node, pred_node, fun_node, var_node, con_node, term_nodes, terms_nodes, nodes, written}
 use Rattle.definitions.specs.Reading.{parse, node_weight, Due, some_due, Step, bad, over, on, place, Scan, read_nodes, bad_line, large_line, before, scan, as_formula, first, trees, settle, read}
-use Rattle.definitions.specs.Laws.Scanned.{served_scan}
-use Rattle.definitions.specs.Laws.Reading.{read_iff, within_served}
+use Rattle.definitions.proofs.Laws.Scanned.{served_scan}
+use Rattle.definitions.proofs.Laws.Reading.{read_iff, within_served}
 use Rattle.text.specs.Words.{term_code, terms_code, code}
 use Rattle.reader.specs.Lines.{upto, node_code, nodes_code, all_inside, Stand, Lies}
 use Rattle.reader.specs.Levels.{due_of, Ready, Fit, Moves}

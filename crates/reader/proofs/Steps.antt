@@ -16,7 +16,7 @@ use Rattle.definitions.specs.Limits.{house}
 use Rattle.definitions.specs.Syntax.{and, or, imp, iff, all, ex}
 use Rattle.definitions.specs.RuleText.{Node, top_node, bot_node, not_node, eq_node, bin_node, block_node, pred_node, fun_node, var_node, con_node}
 use Rattle.definitions.specs.Reading.{node_weight, is_term, Due, some_due, parts, agree, bad, over, on, place}
-use Rattle.definitions.specs.Laws.Bools.{by_cases}
+use Rattle.definitions.proofs.Laws.Bools.{by_cases}
 use Rattle.text.specs.Words.{Token, var_token}
 use Rattle.reader.specs.Lines.{node_kind, node_parts, node_code, Stand, Lies, Sees, Saw}
 use Rattle.reader.specs.Levels.{due_of, sort_at, part_sort_at, Ready, Fit, Moves}

@@ -11,7 +11,7 @@ use Rattle.definitions.specs.Limits.{house}
 use Rattle.definitions.specs.Syntax.{Name, Op, and, or, imp, iff, Quant, Formula, Term, count, eq, bin}
 use Rattle.definitions.specs.Names.{keep, free}
 use Rattle.definitions.specs.Simplify.{simplify, turn, tidy, over_kept}
-use Rattle.definitions.specs.Laws.Once.{free_once}
+use Rattle.definitions.proofs.Laws.Once.{free_once}
 use Rattle.text.specs.Words.{Token, var_token, token, tokens, kind_of_word, count_of, code, sides, root, below, is_made, op_kind, block_kind}
 use Rattle.text.specs.Shapes.{code_splits, Shapes, by_shape}
 use Rattle.substitution.specs.Runs.{Within, Lists, Safe as Copies}

@@ -10,7 +10,7 @@ use Rattle.definitions.specs.Syntax.{Name, all, ex}
 use Rattle.definitions.specs.Names.{mem, filter, without}
 use Rattle.definitions.specs.Prenex.{Prefix, plain, more}
 use Rattle.definitions.specs.Skolem.{Counts, constant_name, function_name, first_number, counts_after, binders}
-use Rattle.definitions.specs.Laws.Bools.{by_cases}
+use Rattle.definitions.proofs.Laws.Bools.{by_cases}
 use Rattle.text.specs.Words.{Token, var_token, sign, block_code}
 use Rattle.text.specs.Prefixes.{names, prefix_code}
 use Rattle.text.specs.PrefixLaws.{prefix_names}

@@ -12,7 +12,7 @@ use lib.Seq.{slice, take-take, take-suc-set, drop-set-lt, drop-cons}
 use Rattle.definitions.specs.Bytes.{Bytes}
 use Rattle.definitions.specs.Limits.{house}
 use Rattle.definitions.specs.Skolem.{Counts, constant_name, function_name}
-use Rattle.definitions.specs.Laws.Bools.{by_cases}
+use Rattle.definitions.proofs.Laws.Bools.{by_cases}
 use Rattle.text.specs.Words.{Token, var_token, sign, token, tokens, count_of}
 use Rattle.text.specs.WordLaws.{other_word}
 use Rattle.skolem.specs.declared.counters.Counters.{Counters}

@@ -10,7 +10,7 @@ use lib.ListN.{length, take, set, get_or, length-set, length-take, length-append
 use lib.Seq.{slice, take-suc, take-suc-set, take-take, take_all}
 use Rattle.definitions.specs.Bytes.{Bytes}
 use Rattle.definitions.specs.Limits.{house}
-use Rattle.definitions.specs.Laws.Bools.{clash}
+use Rattle.definitions.proofs.Laws.Bools.{clash}
 use Rattle.text.specs.Words.{Token, token, tokens, spell}
 use Rattle.text.specs.WordLaws.{variable_word, other_word, kind_is}
 use Rattle.skolem.specs.declared.matrix.Went.{Went}

@@ -14,8 +14,8 @@ use Rattle.definitions.specs.Syntax.{Name, Term, var, con, app, Terms, nil, cons
 use Rattle.definitions.specs.Names.{mem, filter, without, union, term_vars, terms_vars, free}
 use Rattle.definitions.specs.Prenex.{Prefix, plain, more, close, no_block}
 use Rattle.definitions.specs.Skolem.{binders}
-use Rattle.definitions.specs.Laws.Bools.{by_cases, clash, and_true_left, and_true_right}
-use Rattle.definitions.specs.Laws.Sets.{mem_append, mem_filter}
+use Rattle.definitions.proofs.Laws.Bools.{by_cases, clash, and_true_left, and_true_right}
+use Rattle.definitions.proofs.Laws.Sets.{mem_append, mem_filter}
 use Rattle.text.specs.Words.{Token, var_token, sign, term_code, terms_code, code}
 use Rattle.text.specs.Prefixes.{names}
 use Rattle.text.specs.PrefixLaws.{names_append, names_vars}

@@ -4,8 +4,8 @@ use mathlib.Core.Bool.{Bool, true, false, not, ◌&&◌, ◌||◌}
 use mathlib.Core.List.{List, [], ◌∷◌, ◌++◌, map, flat_map, append_assoc}
 use Rattle.definitions.specs.Syntax.{Name}
 use Rattle.definitions.specs.Names.{mem, filter, without}
-use Rattle.definitions.specs.Laws.Bools.{by_cases}
-use Rattle.definitions.specs.Laws.Sets.{mem_append}
+use Rattle.definitions.proofs.Laws.Bools.{by_cases}
+use Rattle.definitions.proofs.Laws.Sets.{mem_append}
 
 pub filter_same : (p q : Name → Bool) → ((x : Name) → p x ≡ q x) → (l : List Name) → filter p l ≡ filter q l
 unfolding filter

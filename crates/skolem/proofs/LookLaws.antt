@@ -14,7 +14,7 @@ use Rattle.definitions.specs.Limits.{house}
 use Rattle.definitions.specs.Syntax.{Name, Formula}
 use Rattle.definitions.specs.Prenex.{parted}
 use Rattle.definitions.specs.Skolem.{holds_hash, hash_free}
-use Rattle.definitions.specs.Laws.Bools.{by_cases, and_true_right}
+use Rattle.definitions.proofs.Laws.Bools.{by_cases, and_true_right}
 use Rattle.text.specs.Words.{Token, token, tokens, spell, kind_of_word, code, kind}
 use Rattle.text.specs.WordLaws.{other_word, kind_is, map_take, map_drop}
 use Rattle.text.specs.Prefixes.{prefix_code}

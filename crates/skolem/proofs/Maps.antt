@@ -10,7 +10,7 @@ use lib.Dec.{eqb, ltb}
 use lib.ListN.{length, take, drop, length-map, length-append}
 use Rattle.definitions.specs.Syntax.{Name}
 use Rattle.definitions.specs.Names.{mem}
-use Rattle.definitions.specs.Laws.Bools.{by_cases}
+use Rattle.definitions.proofs.Laws.Bools.{by_cases}
 use Rattle.text.specs.Words.{Token, kind, count, name}
 use Rattle.text.specs.WordLaws.{map_take, map_drop}
 use Rattle.text.specs.Prefixes.{names}

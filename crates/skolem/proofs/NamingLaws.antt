@@ -10,7 +10,7 @@ use lib.ListN.{length, take, drop, length-append}
 use lib.Seq.{take-nil, take_at, drop_at, take-take, drop-drop, length-take-le}
 use Rattle.definitions.specs.Bytes.{Bytes, digits, decimal}
 use Rattle.definitions.specs.Syntax.{Name}
-use Rattle.definitions.specs.Laws.Bools.{by_cases}
+use Rattle.definitions.proofs.Laws.Bools.{by_cases}
 use Rattle.text.specs.Words.{spell, kind_of_word, count_of, size_of, start_of}
 use Rattle.writer.specs.Writer.{Wrote, Puts}
 use Rattle.writer.specs.PutLaws.{wrote_both}

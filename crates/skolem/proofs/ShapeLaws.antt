@@ -10,7 +10,7 @@ use Rattle.definitions.specs.Names.{constants, functions, syms, term_syms, terms
 use Rattle.definitions.specs.Truth.{every}
 use Rattle.definitions.specs.Prenex.{Prefix, plain, more, parted, no_block, all_only, is_prenex_form, is_skolem}
 use Rattle.definitions.specs.Skolem.{holds_hash, hash_free}
-use Rattle.definitions.specs.Laws.Bools.{not_or}
+use Rattle.definitions.proofs.Laws.Bools.{not_or}
 use Rattle.text.specs.Words.{Token, var_token, sign, op_kind, block_kind, term_code, terms_code, code, kind}
 use Rattle.text.specs.Prefixes.{prefix_code}
 use Rattle.skolem.specs.declared.shape.Shape.TheVariants.{Skolem, Prenex, Other}

@@ -8,7 +8,7 @@ use lib.ListN.{take, length-take}
 use Rattle.definitions.specs.Bytes.{Bytes}
 use Rattle.definitions.specs.Limits.{house}
 use Rattle.definitions.specs.Prenex.{Prenex}
-use Rattle.definitions.specs.Laws.Bools.{clash}
+use Rattle.definitions.proofs.Laws.Bools.{clash}
 use Rattle.text.specs.Words.{token, tokens}
 use Rattle.text.specs.Prefixes.{names, Apart}
 use Rattle.text.specs.Tables.{as_table}

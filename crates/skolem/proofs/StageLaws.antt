@@ -16,7 +16,7 @@ use Rattle.definitions.specs.Prenex.{Prefix, Prenex, close, no_block}
 use Rattle.definitions.specs.Skolem as form
 use Rattle.definitions.specs.Skolem.{binders, skolemise, skolem_formula}
 use Rattle.definitions.specs.Convert.{too_large}
-use Rattle.definitions.specs.Laws.Bools.{by_cases, clash}
+use Rattle.definitions.proofs.Laws.Bools.{by_cases, clash}
 use Rattle.text.specs.Words.{Token, token, tokens, code}
 use Rattle.text.specs.WordLaws.{other_word}
 use Rattle.text.specs.Prefixes.{names, prefix_code, Firm}

@@ -9,7 +9,7 @@ use Rattle.definitions.specs.Syntax.{Formula, weight}
 use Rattle.definitions.specs.Names.{mem, without, free, widest}
 use Rattle.definitions.specs.Prenex.{Prefix, plain, more, Prenex, close, formula, no_block}
 use Rattle.definitions.specs.Skolem.{Counts, binders, skolemise}
-use Rattle.definitions.specs.Laws.Sets.{mem_append}
+use Rattle.definitions.proofs.Laws.Sets.{mem_append}
 use Rattle.text.specs.Words.{Token, code}
 use Rattle.text.specs.Weights.{words_weight}
 use Rattle.text.specs.Prefixes.{prefix_code}

@@ -14,8 +14,8 @@ use Rattle.definitions.specs.Limits.{house}
 use Rattle.definitions.specs.RuleText.{simple_name, is_name}
 use Rattle.definitions.specs.Convert.{to_simplified}
 use Rattle.definitions.specs.Program.{do_word, conversion_word, conversions}
-use Rattle.definitions.specs.Laws.Bools.{by_cases, clash, same_truth, and_true_left}
-use Rattle.definitions.specs.Laws.Sets.{same_eq, same_refl}
+use Rattle.definitions.proofs.Laws.Bools.{by_cases, clash, same_truth, and_true_left}
+use Rattle.definitions.proofs.Laws.Sets.{same_eq, same_refl}
 use Rattle.stream.specs.declared.machine.State.{State}
 use Rattle.stream.specs.declared.machine.Phase.{Phase}
 use Rattle.stream.specs.Machine.{at, step_in, number_of, conversion_found, matches, next_matched, grown, first_line, refused_file, second_line, in_label, in_text, chosen, first_step, second_step, label_step, text_step, step, rule_tab, longest_first, longest_label}

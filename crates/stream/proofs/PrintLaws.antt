@@ -13,7 +13,7 @@ use Rattle.definitions.specs.Bytes.{Bytes, TAB, LF, decimal}
 use Rattle.definitions.specs.Limits.{house, lent, published}
 use Rattle.definitions.specs.Convert.{Conversion, to_simplified, to_nnf, to_pnf, to_snf, to_cnf, to_dnf, pnf_to_snf, snf_to_cnf, snf_to_dnf, Result, given, refused, Answer, accepted, not_given, fitted, laid, answer, out_after, work_after, convert}
 use Rattle.definitions.specs.Program.{conversion_word, done_word, field_line, question, refused_word, refusal, printed, conversions}
-use Rattle.definitions.specs.Laws.Bools.{by_cases}
+use Rattle.definitions.proofs.Laws.Bools.{by_cases}
 use Rattle.writer.specs.Writer.{Wrote, Puts}
 use Rattle.writer.specs.PutLaws.{wrote_none, wrote_both, wrote_is}
 use Rattle.writer.specs.DigitLaws.{decimal_one, length_more}

@@ -8,7 +8,7 @@ use native.Mathlib.Omega.{arith}
 use lib.ListN.{length, drop, get_or, drop_of_length-le}
 use lib.Seq.{drop-cons}
 use Rattle.definitions.specs.Bytes.{Bytes}
-use Rattle.definitions.specs.Laws.Bools.{by_cases}
+use Rattle.definitions.proofs.Laws.Bools.{by_cases}
 use Rattle.stream.specs.declared.machine.State.{State}
 use Rattle.stream.specs.declared.Pushed.{Pushed}
 use Rattle.stream.specs.Machine.{Machine, at, complete, step, run, in_label, due_print, no_print}

@@ -9,7 +9,7 @@ use lib.Seq.{slice, slice_empty}
 use Rattle.definitions.specs.Bytes.{Bytes}
 use Rattle.definitions.specs.Limits.{house}
 use Rattle.definitions.specs.Names.{mem}
-use Rattle.definitions.specs.Laws.Bools.{by_cases}
+use Rattle.definitions.proofs.Laws.Bools.{by_cases}
 use Rattle.text.specs.Words.{spell}
 use Rattle.substitution.specs.Runs.{spells, those, staying, Keeps, Retains, Sifts}
 use Rattle.substitution.specs.Slices.{slice_next, slice_none, slice_put, slice_behind}

@@ -4,8 +4,8 @@ use Rattle.std.proofs.Common.{sym, ap, ◌∙◌, append_assoc, append-nil}
 use Rattle.std.proofs.Math.Bool.{and_comm}
 use Rattle.definitions.specs.Syntax.{Name}
 use Rattle.definitions.specs.Names.{mem, filter, union, without, keep}
-use Rattle.definitions.specs.Laws.Bools.{by_cases}
-use Rattle.definitions.specs.Laws.Sets.{mem_append, mem_filter}
+use Rattle.definitions.proofs.Laws.Bools.{by_cases}
+use Rattle.definitions.proofs.Laws.Sets.{mem_append, mem_filter}
 
 pub filter_all : (p : Name → Bool) (l : List Name) → ((x : Name) → p x ≡ true) → filter p l ≡ l
 unfolding filter

@@ -14,8 +14,8 @@ use lib.Seq.{drop-cons, ext_get_or}
 use borrow.Author.Tests.{ltb-true, ltb-false, eqb-true, eqb-false, eq-eqb, ne_eqb, le-leb, lt-leb}
 use Rattle.definitions.specs.Bytes.{same}
 use Rattle.definitions.specs.Syntax.{Name}
-use Rattle.definitions.specs.Laws.Bools.{by_cases}
-use Rattle.definitions.specs.Laws.Sets.{same_refl, same_eq}
+use Rattle.definitions.proofs.Laws.Bools.{by_cases}
+use Rattle.definitions.proofs.Laws.Sets.{same_refl, same_eq}
 use Rattle.definitions.specs.Order.{then, cmp_name, cmp_list}
 use Rattle.text.specs.declared.names.Order.{Order}
 use Rattle.text.specs.declared.names.Order.TheVariants.{Less, Equal, Greater}

@@ -5,7 +5,7 @@ use Prim.Native.Nat.{ℕ, zero, suc, ◌+◌, ◌*◌, ◌<◌}
 use native.Mathlib.Omega.{arith}
 use lib.Dec.{ltb}
 use borrow.Author.Tests.{ltb-true, ltb-false}
-use Rattle.definitions.specs.Laws.Bools.{by_cases}
+use Rattle.definitions.proofs.Laws.Bools.{by_cases}
 use Rattle.text.specs.Digits.{digits, Number}
 
 pub four_digits : (d : ℕ → ℕ) {w x y z r : ℕ} → r ≡ w + 256 * (x + 256 * (y + 256 * z)) → d 0 ≡ w → d 1 ≡ x → d 2 ≡ y → d 3 ≡ z → r ≡ digits 4 d

@@ -3,7 +3,7 @@ use Rattle.std.specs.Prelude.{◌≡◌, Bool, true, false, not, List, ℕ, eqb,
 use Rattle.std.proofs.Common.{sym, ◌∙◌, eqb-true}
 use Rattle.std.proofs.lemmas.Bool.{eqb-false}
 use Rattle.definitions.specs.Limits.{house}
-use Rattle.definitions.specs.Laws.Bools.{not_flip}
+use Rattle.definitions.proofs.Laws.Bools.{not_flip}
 
 pub is_whole : (S : List ℕ) {b : Bool} → b ≡ eqb (length S) house.weight → not b ≡ false → length S ≡ house.weight
 is_whole S {b = b} e h = eqb-true (length S) house.weight (sym e ∙ not_flip b false h)

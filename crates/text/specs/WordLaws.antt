@@ -3,7 +3,7 @@ use Rattle.std.specs.Prelude.{◌≡◌, refl, Bool, true, false, cond, List, []
 use Rattle.std.proofs.Common.{sym, ap, arith, eqb-true, eq-eqb, ne_eqb}
 use Rattle.definitions.specs.Bytes.{Bytes}
 use Rattle.definitions.specs.Syntax.{Name}
-use Rattle.definitions.specs.Laws.Bools.{by_cases}
+use Rattle.definitions.proofs.Laws.Bools.{by_cases}
 use Rattle.text.specs.Words.{var_token, sign, token, spell, kind_of_word, count_of, kind, name}
 
 module _ (T M : Bytes) (w : ℕ) where

@@ -3,7 +3,7 @@
 use Rattle.std.specs.Prelude.{◌≡◌, refl, [], ◌∷◌, ◌++◌, ℕ, zero, suc, ◌+◌, ◌/◌, ◌%◌, ◌≤◌, ◌<◌, ltb, length}
 use Rattle.std.proofs.Common.{◌∙◌, ap, arith, ltb-false, lt-ltb, le-ltb, length-append}
 use Rattle.definitions.specs.Bytes.{Bytes, digits, decimal}
-use Rattle.definitions.specs.Laws.Bools.{by_cases}
+use Rattle.definitions.proofs.Laws.Bools.{by_cases}
 
 digits_same : (k j n : ℕ) → n < k → n < j → digits k n ≡ digits j n
 unfolding digits

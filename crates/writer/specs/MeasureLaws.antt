@@ -4,7 +4,7 @@ use Rattle.std.proofs.Common.{sym, ap, ◌∙◌, arith, zero-add, leb-true, leb
 use Rattle.std.proofs.lemmas.Bool.{lt-leb}
 use Rattle.definitions.specs.Bytes.{Bytes}
 use Rattle.definitions.specs.Convert.{accepted, not_given}
-use Rattle.definitions.specs.Laws.Bools.{by_cases}
+use Rattle.definitions.proofs.Laws.Bools.{by_cases}
 use Rattle.writer.specs.declared.Written.{Written}
 use Rattle.writer.specs.declared.Written.TheVariants.{Length, NoRoom}
 use Rattle.writer.specs.Writer.{answer_of, Measured, Writes, Wrote}

@@ -2,7 +2,7 @@
 use Rattle.std.specs.Prelude.{◌≡◌, refl, [], ◌∷◌, ◌++◌, ℕ, ◌+◌, ◌≤◌, ◌<◌, leb, length, take, drop, set}
 use Rattle.std.proofs.Common.{sym, ap, ◌∙◌, append_assoc, append-nil, add-one, arith, leb-true, leb-false, length-set, length-append, take-append-drop, drop-drop, take-suc-set, drop-set-lt}
 use Rattle.definitions.specs.Bytes.{Bytes}
-use Rattle.definitions.specs.Laws.Bools.{by_cases}
+use Rattle.definitions.proofs.Laws.Bools.{by_cases}
 use Rattle.writer.specs.Writer.{Wrote, Puts}
 
 pub wrote_none : (o : Bytes) (at : ℕ) → Wrote o at [] o at

@@ -3,7 +3,7 @@ use native.Mathlib.Omega.{arith}
 use mathlib.Core.Path.{refl, sym, ◌∙◌}
 use mathlib.Core.Bool.{true, false}
 use borrow.Author.Tests.{eqb-true, eqb-false}
-use Rattle.definitions.specs.Laws.Bools.{clash}
+use Rattle.definitions.proofs.Laws.Bools.{clash}
 use Rattle.text.specs.Wholes.{is_whole, never_short}
 use mathlib.Core.Path.{ap}
 use mathlib.Core.Bool.{not}

@@ -10,11 +10,11 @@ use Rattle.definitions.specs.Syntax.{and, or, imp, iff, all, ex}
 use Rattle.definitions.specs.Limits.{Limits, house}
 use Rattle.definitions.specs.RuleText.{Manner, simple_name, variable_name, symbol_name, letter, behind, is_name, Node, top_node, bot_node, not_node, eq_node, bin_node, block_node, pred_node, fun_node, var_node, con_node, keyword, line}
 use Rattle.definitions.specs.Reading.{all_names, parse, node_weight, is_term, Due, some_due, parts, agree, Step, bad, over, on, place, Scan, bad_line, before, scan, settle, read}
-use Rattle.definitions.specs.Laws.Bools.{by_cases, clash, and_true_left, and_true_right}
-use Rattle.definitions.specs.Laws.Pieces.{split_some}
+use Rattle.definitions.proofs.Laws.Bools.{by_cases, clash, and_true_left, and_true_right}
+use Rattle.definitions.proofs.Laws.Pieces.{split_some}
 use Rattle.definitions.specs.Laws.Within.{Allowed, Good}
-use Rattle.definitions.specs.Laws.Lines.{parse_iff}
-use Rattle.definitions.specs.Laws.Scanned.{follow, scan_follows}
+use Rattle.definitions.proofs.Laws.Lines.{parse_iff}
+use Rattle.definitions.proofs.Laws.Scanned.{follow, scan_follows}
 
 -- 33 bytes for each unit of weight, and one line that is too long
 abbrev pub enough : ℕ

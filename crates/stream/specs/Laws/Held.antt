@@ -8,7 +8,7 @@ use Rattle.definitions.specs.Bytes.{Bytes}
 use Rattle.definitions.specs.Limits.{house}
 use Rattle.definitions.specs.Reading.{read}
 use Rattle.definitions.specs.Convert.{Conversion, convert, convert_reading}
-use Rattle.definitions.specs.Laws.Bools.{by_cases}
+use Rattle.definitions.proofs.Laws.Bools.{by_cases}
 use Rattle.stream.specs.Machine.{grown, name_kept, text_kept, longest_label, room}
 use Rattle.stream.specs.Laws.Enough.{enough, read_enough}
 

@@ -5,8 +5,8 @@ use Rattle.std.proofs.Common.{sym, ◌∙◌, ap, append_assoc, arith, eqb-true,
 use Rattle.std.proofs.lemmas.Bool.{eqb-false}
 use Rattle.definitions.specs.Bytes.{Bytes, TAB, LF, begins, onto}
 use Rattle.definitions.specs.Program.{Rule, Parts, cut, parts}
-use Rattle.definitions.specs.Laws.Bools.{by_cases}
-use Rattle.definitions.specs.Laws.Pieces.{Clear}
+use Rattle.definitions.proofs.Laws.Bools.{by_cases}
+use Rattle.definitions.proofs.Laws.Pieces.{Clear}
 use Rattle.stream.specs.Machine.{rule_tab, matches}
 
 -- the first line with its LF, and what follows it

@@ -11,8 +11,8 @@ use Rattle.definitions.specs.Limits.{house, published}
 use Rattle.definitions.specs.RuleText.{simple_name, is_name}
 use Rattle.definitions.specs.Convert.{Conversion, convert}
 use Rattle.definitions.specs.Program.{Rule, Parts, cut, parts, rule_word, question, field_line, refusal, printed, good_label, label, rule_output, rules_output, file_output}
-use Rattle.definitions.specs.Laws.Bools.{by_cases, clash, and_true_left, and_true_right}
-use Rattle.definitions.specs.Laws.Pieces.{Clear, clear_append}
+use Rattle.definitions.proofs.Laws.Bools.{by_cases, clash, and_true_left, and_true_right}
+use Rattle.definitions.proofs.Laws.Pieces.{Clear, clear_append}
 use Rattle.stream.specs.Machine.{room, Machine, Print, rule_print, rule_tab, matches, complete, next_matched, in_text, in_label, second_line, refused_file, first_line, grown, step, text_step, label_step, second_step, due_print, last_print, opened, print_bytes, rule_bytes, name_kept, text_kept, longest_label, conversion_found}
 use Rattle.stream.specs.Feeding.{told, streams}
 use Rattle.stream.specs.Laws.Rules.{line_of, after_line, plus, mid, line_at, first_rule, pending, line_ends, line_matches, rule_begins, line_misses}

@@ -3,7 +3,7 @@ use borrow.Author.Rules.{rules}
 use mathlib.Core.Path.{refl, sym, ◌∙◌}
 use Prim.Native.Nat.{ℕ}
 use lib.ListN.{length-replicate}
-use Rattle.definitions.specs.Laws.Shapes.{nnf_ready}
+use Rattle.definitions.proofs.Laws.Shapes.{nnf_ready}
 use Rattle.convert.proofs.Shown.{as_well, is_refused}
 use Rattle.convert.proofs.Passed.{heavy_matrix, made_matrix}
 use Rattle.convert.proofs.stages.clausal.Goals as goal

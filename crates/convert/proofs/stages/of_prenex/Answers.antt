@@ -6,7 +6,7 @@ use mathlib.Core.Bool.{true, false}
 use Prim.Native.Nat.{ℕ}
 use lib.ListN.{length-replicate}
 use Rattle.definitions.specs.Prenex.{parted}
-use Rattle.definitions.specs.Laws.Bools.{not_flip}
+use Rattle.definitions.proofs.Laws.Bools.{not_flip}
 use Rattle.convert.proofs.Shown.{as_well, is_refused}
 use Rattle.convert.proofs.Shaping.{not_prenex, hashed_prenex, clean_prenex, halves_apart, rule_tame}
 use mathlib.Core.Path.{ap}

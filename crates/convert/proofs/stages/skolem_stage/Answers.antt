@@ -5,7 +5,7 @@ use mathlib.Core.Path.{refl, sym, ◌∙◌}
 use Prim.Native.Nat.{ℕ}
 use lib.ListN.{length-replicate}
 use Rattle.definitions.specs.Skolem.{skolemise, zero_counts}
-use Rattle.definitions.specs.Laws.Shapes.{skolemise_no_block}
+use Rattle.definitions.proofs.Laws.Shapes.{skolemise_no_block}
 use Rattle.convert.proofs.Shown.{as_well, is_refused}
 use Rattle.convert.proofs.Passed.{empty_tables, from_zero, heavy_skolem, no_room_made, made_skolem}
 use Rattle.convert.proofs.stages.skolem_stage.Goals as goal

@@ -4,7 +4,7 @@ use borrow.Author.Tests.{eq-eqb, ne_eqb}
 use native.Mathlib.Omega.{arith}
 use mathlib.Core.Path.{refl}
 use Prim.Native.Nat.{◌-◌, ◌/◌, ◌%◌}
-use Rattle.definitions.specs.Laws.Bools.{clash}
+use Rattle.definitions.proofs.Laws.Bools.{clash}
 use Rattle.prenex.proofs.write.plain.Goals as goal
 
 pub returns-then-word-eq1 : goal.returns-then-word-eq1
