@@ -1,14 +1,14 @@
 -- One more clause in the table: a part behind those that are there leaves them as they are.
 use mathlib.Core.Path.{◌≡◌, refl, sym, ap, ap₂, ◌∙◌}
 use mathlib.Core.List.{List, [], ◌∷◌, ◌++◌, map, append_assoc, append-nil}
-use Prim.Native.Nat.{ℕ, zero, suc, ◌+◌, ◌*◌, ◌-◌, ◌/◌, ◌%◌, ◌<◌, ◌≤◌, compare}
+use Prim.Native.Nat.{ℕ, zero, suc, ◌+◌, ◌-◌, ◌/◌, ◌%◌, ◌<◌, ◌≤◌, compare}
 use native.Mathlib.Omega.{arith}
 use native.Mathlib.Numerals.{add-one}
 use lib.ListN.{length, take, drop, get_or, set, length-append, length-drop, drop_of_length-le, take-append-drop}
 use lib.Seq.{length-take-le, take-add, take_at, drop_at, take-take, drop-cons, take-suc, take-suc-set}
 use Rattle.definitions.specs.Order.{insert, set_of}
 use Rattle.definitions.proofs.Laws.Sorted.{set_of_length}
-use Rattle.clauses.specs.Plans.{Plan, made, words, size}
+use Rattle.clauses.specs.Plans.{Plan, made, words}
 use Rattle.clauses.specs.Ranks.{part, part_word}
 use Rattle.clauses.specs.Sets.{entries, cmp_numbers, sets_of}
 use Rattle.clauses.specs.Steps.{Walked, total, Within, GrownBy, Grows}

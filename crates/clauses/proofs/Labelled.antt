@@ -1,11 +1,11 @@
 -- A plan with ranks in place of places: its words are the plan's with new numbers, and its raw clauses are those of the formula.
 use mathlib.Core.Path.{◌≡◌, refl, sym, ap, ap₂, ◌∙◌}
-use mathlib.Core.Bool.{Bool, true, false, ◌&&◌, ◌||◌, cond}
+use mathlib.Core.Bool.{Bool, true, false, ◌&&◌}
 use mathlib.Core.List.{List, [], ◌∷◌, ◌++◌, map, append_assoc}
-use Prim.Native.Nat.{ℕ, suc, ◌+◌, ◌*◌, ◌/◌, ◌%◌, ◌<◌, ◌≤◌}
+use Prim.Native.Nat.{ℕ, suc, ◌+◌, ◌/◌, ◌%◌, ◌<◌, ◌≤◌}
 use native.Mathlib.Omega.{arith}
 use lib.Dec.{compare_is_eq}
-use lib.ListN.{length, drop}
+use lib.ListN.{drop}
 use borrow.Author.Tests.{ne_eqb}
 use Rattle.definitions.specs.Bytes.{Bytes}
 use Rattle.definitions.specs.Syntax.{Op, and, or, imp, iff, Quant, all, ex, Formula, top, bot, pred, eq, neg, bin, blk, weight}
@@ -20,8 +20,8 @@ use Rattle.definitions.specs.Laws.Shapes.{is_atom, and_or, negated}
 use Rattle.text.specs.Words.{Token, sign, tokens, op_kind, code}
 use Rattle.text.specs.Weights.{words_weight}
 use Rattle.clauses.specs.Each.{Each, none, more, At}
-use Rattle.clauses.specs.Plans.{Plan, none as no_clause, empty, leaf, sum, product, made, counts, size, form, form_of, number_of, head, words}
-use Rattle.clauses.specs.Laying.{constant_plan, both, plan, leaf_word}
+use Rattle.clauses.specs.Plans.{Plan, none as no_clause, empty, leaf, sum, product, made, counts, size, form_of, number_of, head, words}
+use Rattle.clauses.specs.Laying.{constant_plan, both, plan}
 use Rattle.clauses.specs.Ranks.{renumbered, relabelled}
 use Rattle.clauses.specs.Sets.{Numbered, positive, negative}
 use Rattle.clauses.proofs.Related.{map_append, each_append, each_product}

@@ -1,15 +1,15 @@
 -- Atoms compared word by word come out as atoms compared: the terms that are due are the same count on both sides, and what is answered
 -- where they all are the same is what the comparison of the rest would say.
-use mathlib.Core.Path.{◌≡◌, refl, sym, ap, ap₂, ◌∙◌}
-use mathlib.Core.List.{List, [], ◌∷◌, ◌++◌, append_assoc, append-nil}
+use mathlib.Core.Path.{◌≡◌, refl, sym, ap, ◌∙◌}
+use mathlib.Core.List.{List, ◌++◌, append_assoc}
 use Prim.Native.Nat.compare
-use Prim.Native.Nat.{ℕ, zero, suc, ◌+◌, ◌<◌, ◌≤◌, min, compare, Ordering}
+use Prim.Native.Nat.{ℕ, zero, suc, ◌+◌, ◌<◌, compare, Ordering}
 use native.Mathlib.Omega.{arith}
-use Rattle.definitions.specs.Syntax.{Name, Term, var, con, app, Terms, nil, cons, count}
+use Rattle.definitions.specs.Syntax.{Term, var, con, app, Terms, nil, cons, count}
 use Rattle.definitions.specs.Order.{Atom, rel, same_as, then, cmp_list, cmp_name, cmp_term, cmp_terms, cmp_atom}
 use Rattle.definitions.specs.Clauses.{atom_formula}
-use Rattle.text.specs.Words.{Token, var_token, sign, term_code, terms_code, code}
-use Rattle.clauses.specs.Ranks.{due, cmp_token, cmp_tokens}
+use Rattle.text.specs.Words.{Token, term_code, terms_code, code}
+use Rattle.clauses.specs.Ranks.{due, cmp_tokens}
 use Rattle.clauses.proofs.Tokens.{none_due}
 
 then_assoc : (a b c : Ordering) → then (then a b) c ≡ then a (then b c)

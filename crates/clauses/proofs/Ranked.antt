@@ -1,36 +1,34 @@
 -- The ranks of a matrix's atoms. The parts that are found are the atoms of the formula; sorting parts sorts atoms; so the rank of an atom
 -- among the parts is its place in the sorted list, and the raw clauses of a plan with ranks are those of the formula.
 use mathlib.Core.Path.{◌≡◌, refl, sym, ap, ap₂, ◌∙◌}
-use mathlib.Core.Bool.{Bool, true, false, ◌&&◌, cond}
-use mathlib.Core.List.{List, [], ◌∷◌, ◌++◌, map, append_assoc, append-nil, Memᴰ}
+use mathlib.Core.Bool.{true, ◌&&◌}
+use mathlib.Core.List.{List, [], ◌∷◌, ◌++◌, map, append_assoc}
 use Prim.Native.Nat.compare
-use Prim.Native.Nat.{ℕ, zero, suc, ◌+◌, ◌*◌, ◌/◌, ◌%◌, ◌<◌, ◌≤◌, compare, Ordering}
+use Prim.Native.Nat.{ℕ, suc, ◌+◌, ◌/◌, ◌%◌, ◌<◌, ◌≤◌, compare, Ordering}
 use native.Mathlib.Omega.{arith}
 use lib.Dec.{compare_is_eq}
 use lib.ListN.{length, take, drop, length-append, take-append-drop}
 use lib.Seq.{take_at}
 use Rattle.definitions.specs.Bytes.{Bytes}
-use Rattle.definitions.specs.Syntax.{Term, var, con, app, Terms, nil, cons, term_weight, terms_weight, Op, and, or, imp, iff, Quant, all, ex, Formula, top, bot, pred, eq, neg, bin, blk, weight}
+use Rattle.definitions.specs.Syntax.{Term, var, con, app, Terms, nil, cons, term_weight, terms_weight, Op, and, or, imp, iff, all, ex, Formula, top, bot, pred, eq, neg, bin, blk, weight}
 use Rattle.definitions.specs.Truth.{every, any}
 use Rattle.definitions.specs.Prenex.{no_block}
-use Rattle.definitions.specs.Order.{Atom, rel, same_as, Literal, pos, opp, Clause, cmp_atom, cmp_literal, set_of}
-use Rattle.definitions.specs.Clauses.{Raw, raw_of, raw_combine, raw_opposite, raw, constant, combine, opposite, distribute, atom_formula}
+use Rattle.definitions.specs.Order.{Atom, rel, same_as, Literal, cmp_atom, cmp_literal}
+use Rattle.definitions.specs.Clauses.{atom_formula}
 use Rattle.definitions.proofs.Laws.Bools.{clash, by_cases, and_true_left, and_true_right}
 use Rattle.definitions.specs.Laws.Shapes.{is_atom, and_or, negated}
-use Rattle.definitions.proofs.Laws.Order.{is_less, swap, Orders, itself, atom_orders}
-use Rattle.definitions.proofs.Laws.Sorted.{above, sorted, has, has_in, has_out, set_of_has, set_of_sorted}
-use Rattle.text.specs.Words.{Token, var_token, sign, token, tokens, term_code, terms_code, op_kind, code, kind}
+use Rattle.definitions.proofs.Laws.Order.{is_less, swap, itself, atom_orders}
+use Rattle.definitions.proofs.Laws.Sorted.{above, sorted, has}
+use Rattle.text.specs.Words.{Token, sign, token, tokens, term_code, terms_code, op_kind, code, kind}
 use Rattle.text.specs.WordLaws.{map_take}
 use Rattle.text.specs.Streams.{behind_part}
 use Rattle.text.specs.Weights.{term_words, terms_words, words_weight}
 use Rattle.clauses.specs.Each.{Each, none, more, At, first, later}
-use Rattle.clauses.specs.Plans.{Plan, none, empty, leaf, sum, product, joined, made, counts, size, form_of, number_of, head, words}
-use Rattle.clauses.specs.Laying.{constant_plan, both, plan, leaf_word}
-use Rattle.clauses.specs.Ranks.{cmp_tokens, cmp_places, cmp_parts, part_word, start_of, part, lead, spots, seek, rank, renumbered, relabelled}
+use Rattle.clauses.specs.Plans.{none}
+use Rattle.clauses.specs.Ranks.{cmp_tokens, cmp_places, cmp_parts, part_word, start_of, lead, spots, seek, rank}
 use Rattle.clauses.specs.Search.{at_place}
 use Rattle.clauses.specs.Sets.{Numbered, positive, negative, Spelled}
 use Rattle.clauses.proofs.Numbers.{compare_lt, compare_gt, compare_add}
-use Rattle.clauses.proofs.Related.{each_append, each_set, each_product}
 use Rattle.clauses.proofs.Ordered.{atom_order}
 use Rattle.clauses.proofs.Searching.{less_is}
 

@@ -1,5 +1,5 @@
 -- Lists whose elements belong together stay so when they are joined, mapped, compared and sorted, where the two comparisons agree.
-use mathlib.Core.Path.{◌≡◌, refl, sym, ap, ap₂, ◌∙◌}
+use mathlib.Core.Path.{◌≡◌, refl, ap, ap₂}
 use mathlib.Core.List.{List, [], ◌∷◌, ◌++◌, map}
 use Prim.Native.Nat.{ℕ, suc, ◌+◌, Ordering}
 use lib.ListN.{length}

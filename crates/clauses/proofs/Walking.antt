@@ -11,7 +11,7 @@ use lib.Seq.{drop-cons, drop-drop, drop_at, length-take-le}
 use Rattle.definitions.specs.Order.{insert, set_of}
 use Rattle.definitions.proofs.Laws.Order.{compare_orders}
 use Rattle.definitions.proofs.Laws.Sorted.{set_of_sorted, set_of_last, set_of_length}
-use Rattle.clauses.specs.Plans.{Plan, none, empty, leaf, sum, product, joined, made, counts, clamped, size, form, form_of, size_of, clauses_of, number_of, head, words}
+use Rattle.clauses.specs.Plans.{Plan, none, empty, leaf, sum, product, made, counts, clamped, size, form, form_of, size_of, clauses_of, number_of, head, words}
 use Rattle.clauses.specs.Search.{Falls}
 use Rattle.clauses.specs.Steps.{Walked}
 use Rattle.clauses.proofs.Numbers.{either_way}

@@ -1,8 +1,8 @@
 -- A whole table that holds a matrix: its plan, its atoms, and the set that is gathered from the two.
-use mathlib.Core.Path.{◌≡◌, refl, sym, ap, ap₂, ◌∙◌}
-use mathlib.Core.Bool.{Bool, true, false, ◌&&◌, ◌||◌}
+use mathlib.Core.Path.{◌≡◌, refl, sym, ap, ◌∙◌}
+use mathlib.Core.Bool.{true, false, ◌||◌}
 use mathlib.Core.List.{List, [], ◌∷◌, ◌++◌, map, append-nil}
-use Prim.Native.Nat.{ℕ, suc, ◌+◌, ◌<◌, ◌≤◌, min, compare}
+use Prim.Native.Nat.{ℕ, suc, ◌<◌, ◌≤◌, min, compare}
 use native.Mathlib.Omega.{arith}
 use lib.Dec.{ltb}
 use lib.ListN.{length, take, drop, get_or, length-map, length-drop, take-append-drop}
@@ -10,9 +10,8 @@ use lib.Seq.{drop-cons, length-take-le}
 use borrow.Author.Tests.{lt-ltb, le-ltb}
 use Rattle.definitions.specs.Bytes.{Bytes}
 use Rattle.definitions.specs.Syntax.{Quant, Formula, weight}
-use Rattle.definitions.specs.Limits.{house}
 use Rattle.definitions.specs.Prenex.{no_block}
-use Rattle.definitions.specs.Order.{Atom, Literal, Clause, cmp_atom, cmp_literal, cmp_clause, set_of}
+use Rattle.definitions.specs.Order.{Atom, cmp_atom, cmp_literal, set_of}
 use Rattle.definitions.specs.Clauses.{distribute, clauses, raw, atom_formula}
 use Rattle.definitions.specs.Convert.{too_many}
 use Rattle.definitions.proofs.Laws.Bools.{and_true_left, and_true_right, or_left, or_right}
@@ -27,16 +26,16 @@ use Rattle.text.specs.declared.table.Table.{Table}
 use Rattle.clauses.specs.declared.Fate.TheVariants.{Given, TooMany}
 use Rattle.clauses.specs.declared.Answer.{Answer}
 use Rattle.clauses.specs.Each.{Each, none, All}
-use Rattle.clauses.specs.Plans.{Plan, made, counts, size, clauses_of, literals_of, head, words}
+use Rattle.clauses.specs.Plans.{Plan, made, size, clauses_of, literals_of, head, words}
 use Rattle.clauses.specs.Laying.{plan, laid}
 use Rattle.clauses.specs.Ranks.{cmp_parts, lead, spots, rank, relabelled}
 use Rattle.clauses.specs.Search.{Falls, at_place, Findable}
-use Rattle.clauses.specs.Sets.{Numbered, Spelled, entries, sets_of, Denotes}
+use Rattle.clauses.specs.Sets.{Numbered, Spelled, entries, sets_of}
 use Rattle.clauses.specs.Steps.{total}
 use Rattle.clauses.specs.Stage.{Outcome, given, refused}
 use Rattle.clauses.proofs.Tokens.{kinds_of}
 use Rattle.clauses.proofs.Related.{map_append, each_map, each_compare, each_length, each_set, each_total}
-use Rattle.clauses.proofs.Planned.{head_clauses, head_literals, below, words_split, words_length, plan_small, laid_plan}
+use Rattle.clauses.proofs.Planned.{head_clauses, head_literals, below, words_split, plan_small, laid_plan}
 use Rattle.clauses.proofs.Ranked.{atoms, spots_each, place_agrees, parts_agree, ranked, numbers_agree}
 use Rattle.clauses.proofs.Searching.{sorted_falls}
 use Rattle.clauses.proofs.Placed.{plan_placed}

@@ -1,6 +1,6 @@
 -- The distinct atoms of a matrix in order, found by their words. Atoms are compared as they stand, word by word: a predicate before an
 -- equation; variable, constant, application; then names; then the terms behind, one by one, and a shorter list that is a prefix first.
-use Rattle.std.specs.Prelude.{◌≡◌, Bool, cond, List, [], ◌∷◌, eqb, leb, take, drop}
+use Rattle.std.specs.Prelude.{Bool, cond, List, [], ◌∷◌, eqb, leb, take, drop}
 use Prim.Native.Nat.{ℕ, zero, suc, ◌+◌, ◌*◌, ◌/◌, ◌%◌, compare, Ordering}
 use Rattle.std.proofs.Math.Dec.{compare_is_eq}
 use Rattle.definitions.specs.Bytes.{Bytes}

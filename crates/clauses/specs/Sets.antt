@@ -3,7 +3,7 @@ use Rattle.std.specs.Prelude.{◌≡◌, List, map, length, take}
 use Prim.Native.Nat.{ℕ, ◌+◌, ◌≤◌, compare, Ordering}
 use Rattle.definitions.specs.Bytes.{Bytes}
 use Rattle.definitions.specs.Limits.{house}
-use Rattle.definitions.specs.Order.{Atom, Literal, pos, opp, Clause, cmp_list, insert, set_of}
+use Rattle.definitions.specs.Order.{Atom, Literal, pos, opp, Clause, cmp_list, set_of}
 use Rattle.definitions.specs.Clauses.{atom_formula}
 use Rattle.text.specs.Words.{tokens, code}
 use Rattle.clauses.specs.declared.set.Set.{Set}

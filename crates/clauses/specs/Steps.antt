@@ -1,5 +1,5 @@
 -- What the functions of this crate do to the tables that they are lent.
-use Rattle.std.specs.Prelude.{◌≡◌, List, [], ◌∷◌, ◌++◌, map, length, take, drop}
+use Rattle.std.specs.Prelude.{◌≡◌, List, [], ◌∷◌, ◌++◌, length, take, drop}
 use Prim.Native.Nat.{ℕ, ◌+◌, ◌/◌, ◌%◌, ◌≤◌, compare}
 use Rattle.definitions.specs.Limits.{house}
 use Rattle.definitions.specs.Order.{insert, set_of}

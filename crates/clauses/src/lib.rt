@@ -1,6 +1,8 @@
 // Clauses (stage 5): the clause set of a matrix in negation form, conjunctive or disjunctive.
 // The raw clauses are counted first, by one look at each word; a set is made only where the counts are within the limits, clause by clause
 // with no set between, and the distinct atoms are ranked once, so that literals and clauses compare as numbers.
+#![tactic(auto)]
+
 mod atoms;
 mod plan;
 pub mod set;

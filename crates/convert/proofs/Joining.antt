@@ -1,10 +1,10 @@
 -- Blocks and matrix one behind the other; the words of a rule that was read.
 use mathlib.Core.Path.{◌≡◌, refl, sym, ap, ◌∙◌}
-use mathlib.Core.Bool.{Bool, true, false, not, ◌&&◌}
+use mathlib.Core.Bool.{true, false, not}
 use mathlib.Core.List.{List, [], ◌∷◌, ◌++◌, append_assoc, map-append}
 use Prim.Native.Nat.{ℕ, zero, suc, ◌+◌, ◌<◌, ◌≤◌}
 use native.Mathlib.Omega.{arith}
-use lib.ListN.{length, take, get_or, set, replicate, length-append, length-set, length-map}
+use lib.ListN.{length, take, get_or, set, replicate, length-append, length-map}
 use lib.Seq.{take-suc, take-suc-set, length-take-le, get_or-take}
 use Rattle.definitions.specs.Bytes.{Bytes}
 use Rattle.definitions.specs.Syntax.{Formula, weight}

@@ -1,20 +1,20 @@
 -- How stages 2 and 3 end, as the definitions of the conversions have it.
-use mathlib.Core.Path.{◌≡◌, refl, sym, ap, subst, ◌∙◌}
-use mathlib.Core.Bool.{Bool, true, false, not, ◌||◌, cond}
-use mathlib.Core.List.{List, [], ◌∷◌, ◌++◌}
-use Prim.Native.Nat.{ℕ, ◌+◌, ◌*◌, ◌<◌, ◌≤◌}
+use mathlib.Core.Path.{◌≡◌, refl, ap, subst, ◌∙◌}
+use mathlib.Core.Bool.{true, false}
+use mathlib.Core.List.{List, ◌++◌}
+use Prim.Native.Nat.{ℕ, ◌*◌, ◌≤◌}
 use native.Mathlib.Omega.{arith}
 use lib.Dec.{ltb}
 use lib.ListN.{length, take, replicate, length-replicate}
-use borrow.Author.Tests.{ltb-true, ltb-false, lt-ltb, le-ltb}
+use borrow.Author.Tests.{ltb-false, lt-ltb, le-ltb}
 use Rattle.definitions.specs.Bytes.{Bytes}
-use Rattle.definitions.specs.Syntax.{Name, Quant, Formula, weight}
+use Rattle.definitions.specs.Syntax.{Quant, Formula, weight}
 use Rattle.definitions.specs.Limits.{house, published}
 use Rattle.definitions.specs.RuleText.{written}
 use Rattle.definitions.specs.Names.{free, bound, widest}
 use Rattle.definitions.specs.Truth.{every}
 use Rattle.definitions.specs.Simplify.{simplify}
-use Rattle.definitions.specs.Prenex.{Prenex, formula, close, pnf, outward}
+use Rattle.definitions.specs.Prenex.{Prenex, formula, pnf, outward}
 use Rattle.definitions.specs.Skolem.{skolemise, skolem_formula, zero_counts}
 use Rattle.definitions.specs.Skolem as form
 use Rattle.definitions.specs.Negation.{nnf}
@@ -22,7 +22,6 @@ use Rattle.definitions.specs.Clauses.{raw, clauses, listing}
 use Rattle.definitions.specs.Convert.{Result, given, refused, refused_if, too_large, too_long, too_many, stage, through_prenex, through_skolem, as_clauses, snf, convert_tree, to_pnf, to_snf, to_cnf, to_dnf, snf_to_cnf, snf_to_dnf}
 use Rattle.definitions.proofs.Laws.Bools.{by_cases, or_false_left, or_false_right, not_flip}
 use Rattle.definitions.specs.Laws.Within.{Within}
-use Rattle.definitions.specs.Laws.Kept.{each}
 use Rattle.definitions.proofs.Laws.Kept.{simplify_each, nnf_each, widest_most, variables_each}
 use Rattle.definitions.specs.Laws.Passing.{short, few}
 use Rattle.definitions.proofs.Laws.Passing.{good_each, each_stage, simplify_stage}
@@ -46,7 +45,6 @@ use Rattle.skolem.specs.declared.Skolemised.{Skolemised}
 use Rattle.skolem.specs.declared.Fate.TheVariants as ends
 use Rattle.skolem.specs.declared.counters.Counters.{Counters}
 use Rattle.skolem.specs.Stage as third
-use Rattle.skolem.specs.Naming.{Roomy}
 use Rattle.skolem.specs.Counting.{counts_of}
 use Rattle.convert.specs.declared.stages.Last.TheVariants.{Form, Conjunctive, Disjunctive}
 use Rattle.convert.specs.Stages.{Tame, Narrow, ending, of_skolem_stage}

@@ -1,12 +1,12 @@
 -- The shape of a rule, as refusal 4 has it, and the matrix of one.
-use mathlib.Core.Path.{◌≡◌, refl, sym, ap, ◌∙◌}
-use mathlib.Core.Bool.{Bool, true, false, not, ◌&&◌}
+use mathlib.Core.Path.{◌≡◌, sym, ap, ◌∙◌}
+use mathlib.Core.Bool.{Bool, true, false, not}
 use mathlib.Core.List.{List}
 use Prim.Native.Nat.{ℕ}
 use Rattle.definitions.specs.Bytes.{Bytes}
 use Rattle.definitions.specs.Syntax.{Formula}
 use Rattle.definitions.specs.Limits.{house}
-use Rattle.definitions.specs.Prenex.{Prenex, formula, no_block, all_only, parted, is_prenex_form, is_skolem}
+use Rattle.definitions.specs.Prenex.{formula, no_block, all_only, parted, is_prenex_form, is_skolem}
 use Rattle.definitions.specs.Skolem.{skolem_formula, hash_free}
 use Rattle.definitions.specs.Convert.{Result, refused, stage, as_clauses, through_prenex, through_skolem, snf, snf_of_prenex, pnf_to_snf, convert_tree}
 use Rattle.definitions.proofs.Laws.Bools.{and_true_left}

@@ -1,13 +1,10 @@
 -- A written table, a stage's result and a rule that was read, as answers.
 use mathlib.Core.Path.{◌≡◌, refl, sym, ap, ◌∙◌}
-use mathlib.Core.Bool.{Bool, true, false, cond}
-use mathlib.Core.Logic.{◌↔◌}
 use mathlib.Core.List.{List}
 use Prim.Native.Nat.{ℕ, ◌<◌, ◌≤◌}
 use native.Mathlib.Omega.{arith}
-use lib.Dec.{ltb}
 use lib.ListN.{length, take, replicate}
-use borrow.Author.Tests.{ltb-true, ltb-false, lt-ltb, le-ltb}
+use borrow.Author.Tests.{lt-ltb, le-ltb}
 use Rattle.definitions.specs.Bytes.{Bytes}
 use Rattle.definitions.specs.Syntax.{Formula, weight}
 use Rattle.definitions.specs.Limits.{house, published}
@@ -23,13 +20,12 @@ use Rattle.definitions.proofs.Laws.Passing.{simplify_stage, nnf_stage}
 use Rattle.text.specs.declared.table.Table.{Table}
 use Rattle.writer.specs.declared.Written.{Written}
 use Rattle.reader.specs.declared.Outcome.{Outcome}
-use Rattle.reader.specs.declared.Verdict.{Verdict}
 use Rattle.reader.specs.declared.Verdict.TheVariants.{Tree, Malformed, Large}
 use Rattle.text.specs.Words.{tokens}
 use Rattle.text.specs.Tables.{as_table, Holds}
 use Rattle.writer.specs.Writer.{text_of, Writes, answer_of}
 use Rattle.writer.specs.WriterLaws.{text_of_table}
-use Rattle.reader.specs.Reader.{Says, Reads}
+use Rattle.reader.specs.Reader.{Says}
 use Rattle.negation.specs.declared.Staged.{Staged}
 use Rattle.negation.specs.declared.Stage.TheVariants.{Made, Full}
 use Rattle.negation.specs.Stage.{made, full}

@@ -1,8 +1,8 @@
 -- Which variables and functions the forms have: what the tests of the stages say, and what stage 3 keeps of it.
-use mathlib.Core.Path.{◌≡◌, refl, sym, ap, ◌∙◌}
-use mathlib.Core.Bool.{Bool, true, false, not, ◌&&◌, cond}
+use mathlib.Core.Path.{◌≡◌, refl, ap, ◌∙◌}
+use mathlib.Core.Bool.{Bool, true, not, ◌&&◌}
 use mathlib.Core.List.{List, [], ◌∷◌, ◌++◌}
-use Prim.Native.Nat.{ℕ, zero, suc, ◌≤◌, max}
+use Prim.Native.Nat.{ℕ, suc, ◌≤◌}
 use native.Mathlib.Omega.{arith}
 use lib.Dec.{leb}
 use borrow.Author.Tests.{le-leb}
@@ -11,7 +11,7 @@ use Rattle.definitions.specs.Syntax.{Name, Term, var, con, app, Terms, nil, cons
 use Rattle.definitions.specs.Names.{mem, filter, without, union, term_vars, terms_vars, free, bound, term_widest, terms_widest, widest}
 use Rattle.definitions.specs.Truth.{every}
 use Rattle.definitions.specs.Prenex.{Subst, shade, term_sub, terms_sub, sub, Prefix, plain, more, Prenex, close, formula, shades}
-use Rattle.definitions.specs.Skolem.{Counts, Skolemised, skolem_term, as_vars, put, arguments, skolem, skolemise, skolem_formula, first_number, counts_after}
+use Rattle.definitions.specs.Skolem.{Counts, skolem_term, as_vars, put, arguments, skolem, skolemise, skolem_formula, first_number}
 use Rattle.definitions.proofs.Laws.Bools.{by_cases, and_both, and_true_left, and_true_right, clash}
 use Rattle.definitions.proofs.Laws.Sets.{same_eq}
 use Rattle.definitions.specs.Laws.Kept.{term_each, terms_each, each}

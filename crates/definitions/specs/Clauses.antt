@@ -1,8 +1,8 @@
 -- Clauses (source documents 003, 004, 006, stage 5): a matrix in negation form is distributed; a clause is a set of literals, the result a
 -- set of clauses. The conjunctive set is marked `all` (all of its clauses hold), the disjunctive one `ex` (some clause holds).
-use Rattle.std.specs.Prelude.{Bool, true, false, not, ◌&&◌, ◌||◌, List, [], ◌∷◌, ◌++◌, map, ℕ, ◌+◌, ◌*◌, length}
+use Rattle.std.specs.Prelude.{Bool, true, false, List, [], ◌∷◌, ◌++◌, map, ℕ, ◌+◌, ◌*◌, length}
 use Rattle.definitions.specs.Bytes.{Bytes, TAB, LF, decimal}
-use Rattle.definitions.specs.Syntax.{Name, Op, and, or, imp, iff, Quant, all, ex, Formula, top, bot, pred, eq, neg, bin, blk}
+use Rattle.definitions.specs.Syntax.{Op, and, or, imp, iff, Quant, all, ex, Formula, top, bot, pred, eq, neg, bin, blk}
 use Rattle.definitions.specs.RuleText.{written}
 use Rattle.definitions.specs.Truth.{Domain, Meaning, Assign, over, truth}
 use Rattle.definitions.specs.Negation.{flip}

@@ -1,5 +1,5 @@
 -- The nine conversions: the stages that each passes, the refusals with number, place and order, and what the lent buffers hold afterwards.
-use Rattle.std.specs.Prelude.{Bool, true, false, not, ◌&&◌, ◌||◌, cond, List, [], ◌∷◌, ◌++◌, ℕ, leb, ltb, length, drop, replicate}
+use Rattle.std.specs.Prelude.{Bool, not, ◌||◌, cond, ◌++◌, ℕ, leb, ltb, length, drop, replicate}
 use Rattle.definitions.specs.Bytes.{Bytes}
 use Rattle.definitions.specs.Syntax.{Name, Quant, all, ex, Formula, weight}
 use Rattle.definitions.specs.Limits.{Limits, published}
@@ -9,7 +9,7 @@ use Rattle.definitions.specs.Reading.{Reading, tree, malformed, large, read}
 use Rattle.definitions.specs.Truth.{every}
 use Rattle.definitions.specs.Simplify.{simplify}
 use Rattle.definitions.specs.Negation.{nnf}
-use Rattle.definitions.specs.Prenex.{Prenex, formula, pnf, parted, is_prenex_form, is_skolem}
+use Rattle.definitions.specs.Prenex.{formula, pnf, parted, is_prenex_form, is_skolem}
 use Rattle.definitions.specs.Skolem.{Skolemised, skolemise, skolem_formula, zero_counts, hash_free}
 use Rattle.definitions.specs.Clauses.{Raw, raw, clauses, listing}
 

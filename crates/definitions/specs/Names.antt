@@ -1,5 +1,5 @@
 -- Lists of names as sets; free and bound variables; the variables, constants and functions of a formula.
-use Rattle.std.specs.Prelude.{Bool, true, false, not, ◌&&◌, ◌||◌, cond, List, [], ◌∷◌, ◌++◌, ℕ, max}
+use Rattle.std.specs.Prelude.{Bool, false, not, ◌||◌, cond, List, [], ◌∷◌, ◌++◌, ℕ, max}
 use Rattle.definitions.specs.Bytes.{same}
 use Rattle.definitions.specs.Syntax.{Name, Term, var, con, app, Terms, nil, cons, Formula, top, bot, pred, eq, neg, bin, blk, count}
 

@@ -1,7 +1,6 @@
 -- Negation form (source document 002, stage 4): a negation is handed to the second routine, which hands its parts back to the first.
 -- Nothing is simplified; constants inside stay.
-use Rattle.std.specs.Prelude.{List}
-use Rattle.definitions.specs.Syntax.{Name, Op, and, or, imp, iff, Quant, all, ex, Formula, top, bot, pred, eq, neg, bin, blk}
+use Rattle.definitions.specs.Syntax.{and, or, imp, iff, Quant, all, ex, Formula, top, bot, pred, eq, neg, bin, blk}
 
 abbrev pub flip : Quant → Quant
 flip all = ex

@@ -1,7 +1,7 @@
 -- The order of literals and clauses, which is Rust's derived one: literals positive before negative, predicates before equations, then
 -- name, then terms one by one; terms variable, constant, application; names by bytes; a shorter list that is a prefix comes first.
-use Rattle.std.specs.Prelude.{Bool, true, false, List, [], ◌∷◌}
-use Prim.Native.Nat.{ℕ, compare, Ordering}
+use Rattle.std.specs.Prelude.{List, [], ◌∷◌}
+use Prim.Native.Nat.{compare, Ordering}
 use Rattle.definitions.specs.Syntax.{Name, Term, var, con, app, Terms, nil, cons}
 
 pub data Atom : Type 0 where

@@ -1,7 +1,7 @@
 -- Prenex form (source document 000, stage 2): blocks, then a matrix with no block; prefix and matrix are kept apart. It simplifies first.
 -- At a binary node the whole left prefix comes out before the right one; it flips under not and on an implication's premise; an iff
 -- becomes two implications joined by and, left to right first.
-use Rattle.std.specs.Prelude.{Bool, true, false, not, ◌&&◌, ◌||◌, cond, List, [], ◌∷◌, ◌++◌, ℕ, zero, suc, max, length}
+use Rattle.std.specs.Prelude.{Bool, true, false, ◌&&◌, cond, List, [], ◌∷◌, ◌++◌, ℕ, zero, suc, max, length}
 use Rattle.definitions.specs.Bytes.{same}
 use Rattle.definitions.specs.Syntax.{Name, Term, var, con, app, Terms, nil, cons, Op, and, or, imp, iff, Quant, all, ex, Formula, top, bot, pred, eq, neg, bin, blk}
 use Rattle.definitions.specs.Names.{mem, free, bound}

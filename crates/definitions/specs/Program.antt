@@ -1,5 +1,5 @@
 -- The file program, as a function from the bytes of standard input to those of standard output.
-use Rattle.std.specs.Prelude.{Bool, true, false, not, ◌&&◌, ◌||◌, cond, List, [], ◌∷◌, ◌++◌, ℕ, eqb, leb, length, drop}
+use Rattle.std.specs.Prelude.{Bool, ◌&&◌, cond, List, [], ◌∷◌, ◌++◌, ℕ, eqb, leb, length, drop}
 use Rattle.std.proofs.Math.Option.{Option, none, some}
 use Rattle.definitions.specs.Bytes.{Bytes, TAB, LF, same, null, onto, begins, decimal}
 use Rattle.definitions.specs.Limits.{Limits, lent}

@@ -1,7 +1,6 @@
 -- Rule text: a tree is written parent first, children left to right, one node a line; fields are parted by tabs, lines end in LF.
-use Rattle.std.specs.Prelude.{Bool, true, false, not, ◌&&◌, ◌||◌, cond, List, [], ◌∷◌, ◌++◌, ℕ, zero, suc, ◌+◌, eqb, leb, length}
-use Rattle.std.proofs.Math.Option.{Option, none, some}
-use Rattle.definitions.specs.Bytes.{Bytes, TAB, LF, same, null, split, behind_each, skip, decimal, number}
+use Rattle.std.specs.Prelude.{Bool, false, ◌&&◌, ◌||◌, List, [], ◌∷◌, ◌++◌, ℕ, eqb, leb, length}
+use Rattle.definitions.specs.Bytes.{Bytes, TAB, LF, null, behind_each, skip, decimal}
 use Rattle.definitions.specs.Syntax.{Name, Term, var, con, app, Terms, nil, cons, Op, and, or, imp, iff, Quant, all, ex, Formula, top, bot, pred, eq, neg, bin, blk, count}
 use Rattle.definitions.specs.Limits.{Limits}
 

@@ -2,9 +2,9 @@
 -- In scope at first: the free variables, in order. A forall block first drops its names from the scope, then appends them. An exists block
 -- drops its own names; each of its variables in turn gets a term on those in scope that no later block binds: `f#k`, or the constant `c#k`
 -- if none are left. A variable twice in an exists block draws twice and the last term is the one put in.
-use Rattle.std.specs.Prelude.{◌≡◌, Bool, true, false, not, ◌&&◌, ◌||◌, cond, List, [], ◌∷◌, ◌++◌, ℕ, zero, suc, ◌+◌, eqb, length}
+use Rattle.std.specs.Prelude.{◌≡◌, Bool, false, not, ◌&&◌, ◌||◌, cond, List, [], ◌∷◌, ◌++◌, ℕ, suc, ◌+◌, eqb, length}
 use Rattle.definitions.specs.Bytes.{same, decimal}
-use Rattle.definitions.specs.Syntax.{Name, Term, var, con, app, Terms, nil, cons, Quant, all, ex, Formula}
+use Rattle.definitions.specs.Syntax.{Name, Term, var, con, app, Terms, nil, cons, all, ex, Formula}
 use Rattle.definitions.specs.Names.{mem, without, free, syms, constants, functions}
 use Rattle.definitions.specs.Truth.{Domain, Meaning, every}
 use Rattle.definitions.specs.Prenex.{Subst, sub, Prefix, plain, more, Prenex, close, formula, shades}

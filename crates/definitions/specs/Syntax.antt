@@ -1,5 +1,5 @@
 -- Terms and formulae of first-order logic, as document 01 has them; weight and depth.
-use Rattle.std.specs.Prelude.{Bool, List, [], ◌∷◌, ℕ, zero, suc, ◌+◌, max, length}
+use Rattle.std.specs.Prelude.{List, ℕ, suc, ◌+◌, max, length}
 use Rattle.definitions.specs.Bytes.{Bytes}
 
 abbrev pub Name : Type 0

@@ -1,4 +1,6 @@
 // The nine conversions for programs in C and Rust. Each returns the refusal's number, or 0; place then holds its place, or the text's length.
+#![tactic(auto)]
+
 ghost use Rattle.definitions.specs.Convert.{to_simplified, to_nnf, to_pnf, to_snf, to_cnf, to_dnf, pnf_to_snf, snf_to_cnf, snf_to_dnf};
 ghost use Rattle.exports.specs.Calls.{Calls};
 

@@ -1,5 +1,7 @@
 // The clause listing: `clauses` with their number, each clause as `clause` with its number of literals, each literal as `pos` or `neg` and
 // its atom's rule text. All of it is measured first, so that out is unchanged where it is too short.
+#![tactic(auto)]
+
 mod parts;
 mod puts;
 mod sizes;

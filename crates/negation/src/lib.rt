@@ -2,6 +2,8 @@
 // stops at the first word without room, and every run above it returns at once: at most a table of words is written, also where an iff
 // chain's form is exponentially large, and between two of them lie no more calls than a few for each level of the rule.
 // The functions that call themselves borrow both tables; none has an array of its own.
+#![tactic(auto)]
+
 ghost use Rattle.std.specs.Prelude.{ℕ, ◌+◌, ◌≤◌, ◌<◌, ◌≡◌, not, List, [], ◌∷◌, ◌++◌, map, length};
 ghost use Rattle.definitions.specs.Bytes.{Bytes};
 ghost use Rattle.definitions.specs.Limits.{house};

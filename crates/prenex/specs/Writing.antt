@@ -1,7 +1,7 @@
 -- What the parts of the walk over a rule write: words behind the matrix, blocks behind the prefix with their variables in their slots.
 use Rattle.std.specs.Prelude.{Bool, true, false, List, [], ◌∷◌, ◌++◌, map, ◌≡◌, ℕ, ◌+◌, ◌*◌, ◌≤◌, ◌<◌, max, length, take, drop, get_or}
 use Rattle.definitions.specs.Bytes.{Bytes}
-use Rattle.definitions.specs.Syntax.{Name, weight}
+use Rattle.definitions.specs.Syntax.{Name}
 use Rattle.definitions.specs.Limits.{house}
 use Rattle.definitions.specs.Prenex.{longest}
 use Rattle.text.specs.Words.{Token, var_token, is_made, size_of, start_of, token, tokens}

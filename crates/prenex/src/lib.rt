@@ -1,5 +1,7 @@
 // Prenex form (stage 2): the blocks of a rule come out to its front, in reading order. Prefix and matrix are kept apart, each in a table of
 // its own: the prefix of (∀ x. P(x)) ∧ ∃ x. Q(x) is ∀ x. ∃ x`, and its matrix P(x) ∧ Q(x`).
+#![tactic(auto)]
+
 mod outward;
 mod rename;
 mod weight;

@@ -12,7 +12,7 @@ use lib.ListN.{length, get_or, drop, get_or-eq_default}
 use Rattle.definitions.specs.Bytes.{Bytes, split, number}
 use Rattle.definitions.specs.Limits.{house}
 use Rattle.definitions.specs.RuleText.{variable_name, is_name, Node, block_node}
-use Rattle.definitions.specs.Reading.{alone, unknown, keywords, all_names, counted, of_kind, parse}
+use Rattle.definitions.specs.Reading.{unknown, keywords, all_names, counted, of_kind, parse}
 use Rattle.definitions.proofs.Laws.Bools.{by_cases, and_true_left, and_true_right}
 use Rattle.text.specs.Words.{word_of, sign}
 use Rattle.reader.specs.Lines.{upto, kind_from, kind_at, manner_at, tally, arity_at, Sees, Saw}

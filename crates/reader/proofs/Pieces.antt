@@ -61,7 +61,9 @@ module _ (m : Manner) (s : Bytes) where
   unfolding is_name
   name_parts =
       elim s as (λ (x : Bytes). 0 < length x → is_name house m x ≡ (leb (length x) house.name && letter (get_or x 0 0) && null (behind m (drop 1 x)))) [
-      [] ↦ λ h. absurd (omega arith) | b ∷ r ↦ λ h. refl ]
+        | [] ↦ λ h. absurd (omega arith)
+        | b ∷ r ↦ λ h. refl
+      ]
 
   pub name_ends : (i : ℕ) → 0 < length s → length s ≤ house.name → letter (get_or s 0 0) ≡ true → i ≤ length s → drop i s ≡ behind m (drop 1 s) → eqb i (length s) ≡ is_name house m s
   name_ends i h l e n d = at_end s i n ∙ ap null d ∙ sym (name_parts h ∙ rw (le-leb (length s) 24 l, e))

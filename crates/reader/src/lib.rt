@@ -1,4 +1,6 @@
 // The reader of rule text: bytes in; a table of nodes out, or what is wrong with a line.
+#![tactic(auto)]
+
 ghost use Rattle.std.specs.Prelude.{ℕ, ◌≤◌, ◌<◌, ◌+◌, ◌-◌, ◌*◌, ◌^◌, ◌≡◌, true, List, [], ◌++◌, map, length, take, drop};
 ghost use Rattle.std.proofs.Math.Option.{some};
 ghost use Rattle.definitions.specs.Bytes.{Bytes, split, skip, number};

@@ -1,6 +1,8 @@
 // Stage 1: the simplified form of a table's formula, parts first. A node's place is left or written, its parts are written behind it, and
 // then their first words tell what becomes of the node: a gap is closed by moving a run of words down. A run writes no more words than it
 // reads, so there is always room and nothing is refused.
+#![tactic(auto)]
+
 ghost use Rattle.std.specs.Prelude.{◌≡◌, List, ◌++◌, map, ◌+◌, ◌≤◌, ◌<◌, length, take};
 ghost use Rattle.definitions.specs.Bytes.{Bytes};
 ghost use Rattle.definitions.specs.Limits.{house};

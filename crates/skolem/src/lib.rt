@@ -1,5 +1,7 @@
 // Skolem form (stage 3) of a prenex form that is held in two tables, in one pass: its forall blocks, and its matrix with a term for each
 // variable that an exists block binds.
+#![tactic(auto)]
+
 ghost use Rattle.std.specs.Prelude.{◌≡◌};
 ghost use Rattle.skolem.specs.Stage.{Tested, Skolemises};
 

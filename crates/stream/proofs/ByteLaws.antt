@@ -1,7 +1,7 @@
 -- What the functions of a byte do, in plain variables: each answer is the definition's, by the tests that led to it.
 use mathlib.Core.Path.{◌≡◌, refl, sym, ◌∙◌, ap}
-use mathlib.Core.Bool.{Bool, true, false, ◌&&◌, cond}
-use mathlib.Core.List.{List, [], ◌∷◌, ◌++◌}
+use mathlib.Core.Bool.{Bool, true, false}
+use mathlib.Core.List.{[], ◌∷◌, ◌++◌}
 use Prim.Native.Nat.{ℕ, suc, ◌+◌, ◌≤◌, ◌<◌}
 use native.Mathlib.Numerals.{add-one}
 use native.Mathlib.Omega.{arith}
@@ -14,7 +14,7 @@ use Rattle.definitions.specs.Limits.{house}
 use Rattle.definitions.specs.RuleText.{simple_name, is_name}
 use Rattle.definitions.specs.Convert.{to_simplified}
 use Rattle.definitions.specs.Program.{do_word, conversion_word, conversions}
-use Rattle.definitions.proofs.Laws.Bools.{by_cases, clash, same_truth, and_true_left}
+use Rattle.definitions.proofs.Laws.Bools.{same_truth, and_true_left}
 use Rattle.definitions.proofs.Laws.Sets.{same_eq, same_refl}
 use Rattle.stream.specs.declared.machine.State.{State}
 use Rattle.stream.specs.declared.machine.Phase.{Phase}

@@ -1,12 +1,12 @@
 -- What is printed, in plain variables: lines are runs of bytes put one behind another, and a conversion's answer says what it has laid.
 use mathlib.Core.Path.{◌≡◌, refl, sym, ◌∙◌, ap, subst}
 use mathlib.Core.Bool.{Bool, true, false, cond}
-use mathlib.Core.List.{List, [], ◌∷◌, ◌++◌, append_assoc}
-use Prim.Native.Nat.{ℕ, zero, suc, ◌+◌, ◌-◌, ◌*◌, ◌/◌, ◌^◌, ◌≤◌, ◌<◌, min}
+use mathlib.Core.List.{[], ◌∷◌, ◌++◌, append_assoc}
+use Prim.Native.Nat.{ℕ, zero, suc, ◌+◌, ◌-◌, ◌/◌, ◌^◌, ◌≤◌, ◌<◌, min}
 use native.Mathlib.Omega.{arith}
 use borrow.Author.Tests.{leb-true, ltb-true, ltb-false, le-ltb, lt-ltb, eq-eqb, ne_eqb}
 use lib.Dec.{leb, ltb, eqb}
-use lib.ListN.{length, take, drop, get_or, length-append, length-take, length-drop, take-append-drop, get_or-eq_default}
+use lib.ListN.{length, take, drop, length-append, length-take, length-drop, take-append-drop, get_or-eq_default}
 use lib.Seq.{take_at, drop_at, drop-append-le, drop-drop}
 use native.Mathlib.Nat.{zero-add}
 use Rattle.definitions.specs.Bytes.{Bytes, TAB, LF, decimal}

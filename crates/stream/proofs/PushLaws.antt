@@ -1,17 +1,15 @@
 -- The loop of a push: what it has still to do is what the run from the piece's start has, so the two come to one end.
 use mathlib.Core.Path.{◌≡◌, refl, sym, ◌∙◌, ap}
-use mathlib.Core.Bool.{Bool, true, false, cond}
-use mathlib.Core.List.{List, [], ◌∷◌, ◌++◌}
-use Prim.Native.Nat.{ℕ, suc, ◌+◌, ◌≤◌, ◌<◌}
+use mathlib.Core.Bool.{Bool, true, false}
+use mathlib.Core.List.{◌∷◌}
+use Prim.Native.Nat.{ℕ, ◌+◌, ◌≤◌, ◌<◌}
 use native.Mathlib.Numerals.{add-one}
 use native.Mathlib.Omega.{arith}
 use lib.ListN.{length, drop, get_or, drop_of_length-le}
 use lib.Seq.{drop-cons}
 use Rattle.definitions.specs.Bytes.{Bytes}
-use Rattle.definitions.proofs.Laws.Bools.{by_cases}
 use Rattle.stream.specs.declared.machine.State.{State}
-use Rattle.stream.specs.declared.Pushed.{Pushed}
-use Rattle.stream.specs.Machine.{Machine, at, complete, step, run, in_label, due_print, no_print}
+use Rattle.stream.specs.Machine.{Machine, at, complete, step, run, in_label, due_print}
 use Rattle.stream.specs.Pushing.{Prints, Pushes}
 use Rattle.stream.proofs.PrintLaws.{prints_nothing}
 

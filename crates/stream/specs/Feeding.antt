@@ -1,6 +1,6 @@
 -- Feeding the machine: the input comes in pieces, and what is printed for them all, and at the end, is one text. Laws/Fed.antt proves
 -- that it is what the file program prints for the bytes of all the pieces, however they were cut.
-use Rattle.std.specs.Prelude.{cond, List, [], ◌∷◌, ◌++◌, ℕ}
+use Rattle.std.specs.Prelude.{cond, List, [], ◌∷◌, ◌++◌}
 use Rattle.definitions.specs.Bytes.{Bytes}
 use Rattle.definitions.specs.Limits.{house, published}
 use Rattle.stream.specs.Machine.{Machine, Print, first_line, complete, step, due_print, last_print, opened, print_bytes}

@@ -1,7 +1,7 @@
 -- The file program byte by byte: a machine that reads one byte after another, knows where it is in the file, keeps the label and the
 -- text of the rule that it is reading, and prints a rule once the line behind it has begun with `rule` TAB. Laws/Fed.antt proves that
 -- what it prints for all the bytes of a file is what document 01's program prints.
-use Rattle.std.specs.Prelude.{Bool, true, false, ◌&&◌, cond, List, [], ◌∷◌, ◌++◌, ℕ, zero, suc, ◌+◌, ◌-◌, min, eqb, leb, ltb, length, take, drop, get_or, set}
+use Rattle.std.specs.Prelude.{Bool, true, false, ◌&&◌, cond, List, [], ◌∷◌, ◌++◌, ℕ, suc, ◌-◌, min, eqb, ltb, length, take, drop, get_or, set}
 use Rattle.definitions.specs.Bytes.{Bytes, TAB, LF, same}
 use Rattle.definitions.specs.Limits.{house, published}
 use Rattle.definitions.specs.RuleText.{simple_name, is_name}

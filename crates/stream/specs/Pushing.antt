@@ -1,6 +1,6 @@
 -- The promises of the two functions that a program calls: a push reads on in a piece until something is printed or the piece ends, and
 -- finish prints what is left at the end of the input. What they print lies at the front of out, and out's old bytes behind it.
-use Rattle.std.specs.Prelude.{◌≡◌, Bool, cond, List, [], ◌∷◌, ◌++◌, ℕ, ◌+◌, ltb, length, drop}
+use Rattle.std.specs.Prelude.{◌≡◌, Bool, cond, ◌++◌, ℕ, ◌+◌, ltb, length, drop}
 use Rattle.definitions.specs.Bytes.{Bytes}
 use Rattle.definitions.specs.Convert.{accepted, not_given}
 use Rattle.convert.specs.declared.Answer.{Answer}

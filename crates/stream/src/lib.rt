@@ -1,6 +1,8 @@
 // The file program over pieces of its input. A program lends a buffer for what is kept of a rule, one for what is printed and one for
 // work; it pushes each piece until all of it is read, writing out what each push has printed, and at the end calls `finish`.
 // Any cutting of the input into pieces gives the same output (specs/Laws/Fed.antt).
+#![tactic(auto)]
+
 pub mod machine;
 mod print;
 

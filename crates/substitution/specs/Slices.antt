@@ -1,5 +1,5 @@
 -- Parts of a list between two places, and what a store outside of them leaves.
-use Rattle.std.specs.Prelude.{◌≡◌, List, [], ◌∷◌, ◌++◌, map, ℕ, ◌+◌, ◌-◌, ◌<◌, ◌≤◌, length, get_or, take, drop, set}
+use Rattle.std.specs.Prelude.{◌≡◌, List, [], ◌∷◌, ◌++◌, map, ℕ, ◌+◌, ◌<◌, ◌≤◌, length, get_or, take, drop, set}
 use Rattle.std.proofs.Common.{sym, ap, ◌∙◌, arith, add-one, length-take, take-append-drop, drop_of_length-le, take-take, take-suc-set, length-take-le, drop-set-lt, take_at, drop_at}
 use Rattle.std.proofs.lemmas.List.{map-append, length-map, take-set-le, drop-append-le}
 use Rattle.std.proofs.Math.Decide.{dec_le}

@@ -2,6 +2,8 @@
 // body added is sifted when the block ends. Names are told apart by their spellings, never by their symbols. Throughout, names[low..high]
 // are the names that are asked for. A block asks for its own only: to list all names again at each block around them took 200 ms where 57
 // blocks are nested.
+#![tactic(auto)]
+
 ghost use Rattle.std.specs.Prelude.{◌≡◌, List, ◌++◌, map, ◌+◌, ◌≤◌, ◌<◌, length};
 ghost use Rattle.std.proofs.Math.Seq.{slice};
 ghost use Rattle.definitions.specs.Bytes.{Bytes};

@@ -7,7 +7,7 @@ use Rattle.std.proofs.Math.ListN.{get_or-map, get_or-eq_default}
 use Rattle.text.specs.declared.node.Kind.{Kind}
 use Rattle.text.specs.declared.node.Kind.TheVariants.{Top, Bottom, Not, And, Or, Implies, Iff, Equals, All, Exists, Predicate, Function, Variable, Constant}
 use Rattle.text.specs.declared.node.Node.{Node}
-use Rattle.text.specs.declared.node.Unpacked.TheVariants.{Whole, Broken}
+use Rattle.text.specs.declared.node.Unpacked.TheVariants.{Whole}
 use Rattle.definitions.proofs.Laws.Bools.{by_cases, and_true_left, and_true_right}
 use Rattle.text.specs.Words.{word_of, kind_of_word}
 use Rattle.text.specs.Nodes.{number, kinds, kind_at, origin, packed, node_of, unpacked}

@@ -1,6 +1,6 @@
 -- The variables among tokens, and among those of a prefix.
 use Rattle.std.specs.Prelude.{◌≡◌, refl, List, [], ◌∷◌, ◌++◌, map}
-use Rattle.std.proofs.Common.{sym, ap, ◌∙◌}
+use Rattle.std.proofs.Common.{ap, ◌∙◌}
 use Rattle.definitions.specs.Syntax.{Name}
 use Rattle.definitions.specs.Prenex.{Prefix, plain, more}
 use Rattle.definitions.specs.Skolem.{binders}

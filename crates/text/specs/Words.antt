@@ -4,7 +4,7 @@
 -- `or` `imp` `iff` `eq` `all` `ex` `pred` `fun` `var` `con`; the count is a predicate's or a function's number of arguments, or a block's
 -- number of variables, and else 0; the rest is a symbol: where its spelling starts and how long it is, in the rule text (origin 0) or among
 -- the made names (origin 1). What lies above start's 32 bits is left free.
-use Rattle.std.specs.Prelude.{Bool, true, false, cond, List, [], ◌∷◌, ◌++◌, map, ◌≡◌, ℕ, ◌+◌, ◌*◌, ◌/◌, ◌%◌, ◌≤◌, eqb, length, take, drop}
+use Rattle.std.specs.Prelude.{Bool, cond, List, [], ◌∷◌, ◌++◌, map, ℕ, ◌+◌, ◌*◌, ◌/◌, ◌%◌, eqb, length, take, drop}
 use Rattle.definitions.specs.Bytes.{Bytes}
 use Rattle.definitions.specs.Syntax.{Name, Term, var, con, app, Terms, nil, cons, count as arguments, Op, and, or, imp, iff, Quant, all, ex, Formula, top, bot, pred, eq, neg, bin, blk}
 

@@ -1,4 +1,6 @@
 // Names and their order, symbols and their spellings, and the node table.
+#![tactic(auto)]
+
 pub mod kinds;
 pub mod names;
 pub mod node;

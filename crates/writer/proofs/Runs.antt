@@ -1,10 +1,10 @@
 -- A run of nodes, measured or written node by node. What is left of its text is the text of the nodes that are left, with the variables
 -- that are still due; so the loops keep that what is done and what is left are the whole.
 use mathlib.Core.Path.{◌≡◌, refl, sym, ap, ◌∙◌}
-use mathlib.Core.List.{List, [], ◌∷◌, ◌++◌, append_assoc, append-nil}
+use mathlib.Core.List.{List, [], ◌++◌, append_assoc, append-nil}
 use Prim.Native.Nat.{ℕ, ◌+◌, ◌≤◌, ◌<◌, min}
 use native.Mathlib.Omega.{arith}
-use lib.ListN.{length, take, drop, get_or, length-take, length-append, drop_of_length-le}
+use lib.ListN.{length, take, get_or, length-take, length-append, drop_of_length-le}
 use lib.Seq.{slice}
 use Rattle.definitions.specs.Bytes.{Bytes}
 use Rattle.text.specs.Words.{token, tokens}

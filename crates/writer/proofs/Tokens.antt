@@ -8,13 +8,13 @@ use native.Mathlib.Omega.{arith}
 use native.Mathlib.Nat.{min-eq_left, min-eq_right, le_of_lt}
 use borrow.Author.Tests.{leb-true, leb-false, le-leb, lt-leb}
 use lib.Dec.{leb}
-use lib.ListN.{length, take, drop, get_or, length-take, length-append, get_or-eq_default}
+use lib.ListN.{length, drop, get_or, length-take, length-append, get_or-eq_default}
 use lib.Seq.{slice, slice-cons, take_all, take-length}
 use Rattle.definitions.specs.Bytes.{Bytes, TAB, LF, behind_each, decimal}
 use Rattle.definitions.proofs.Laws.Bools.{by_cases, and_true_left, and_true_right}
 use Rattle.text.specs.Words.{kind_of_word, count_of, is_made, size_of, start_of, spell, token, tokens, count}
 use Rattle.text.specs.WordLaws.{other_word, kind_is, name_is}
-use Rattle.writer.specs.Writer.{fields, keywords, keyword_of, body, after, end, text_from, Puts}
+use Rattle.writer.specs.Writer.{keywords, keyword_of, body, after, end, text_from, Puts}
 
 module _ (T M : Bytes) (w : ℕ) where
   token_count : kind_of_word w ≤ 11 → count (token T M w) ≡ count_of w

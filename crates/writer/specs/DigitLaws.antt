@@ -1,6 +1,6 @@
 -- Decimal digits one by one: how many steps `digits` may take does not matter once it is enough, so a number's digits are those of its
 -- tenth and then its last one.
-use Rattle.std.specs.Prelude.{◌≡◌, refl, [], ◌∷◌, ◌++◌, ℕ, zero, suc, ◌+◌, ◌/◌, ◌%◌, ◌≤◌, ◌<◌, ltb, length}
+use Rattle.std.specs.Prelude.{◌≡◌, [], ◌∷◌, ◌++◌, ℕ, zero, suc, ◌+◌, ◌/◌, ◌%◌, ◌≤◌, ◌<◌, ltb, length}
 use Rattle.std.proofs.Common.{◌∙◌, ap, arith, ltb-false, lt-ltb, le-ltb, length-append}
 use Rattle.definitions.specs.Bytes.{Bytes, digits, decimal}
 use Rattle.definitions.proofs.Laws.Bools.{by_cases}

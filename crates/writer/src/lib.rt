@@ -1,5 +1,7 @@
 // The writer of rule text, and the pieces that it is made of: a byte, a run of bytes, a number, the lines of a run of nodes.
 // A node table is borrowed and not taken by value: a table is 8 KB, and a clause listing writes thousands of runs out of one.
+#![tactic(auto)]
+
 ghost use Rattle.std.specs.Prelude.{◌≡◌, [], ◌∷◌, ℕ, ◌+◌, ◌≤◌, ◌<◌, min, length, take};
 ghost use Rattle.std.proofs.Math.Seq.{slice};
 ghost use Rattle.definitions.specs.Bytes.{Bytes, TAB, decimal};

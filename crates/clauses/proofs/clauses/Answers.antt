@@ -1,8 +1,6 @@
 -- The counts decide; where they are within the limits, the atoms are collected, the plan gets their ranks, and its clauses are gathered.
-use borrow.Author.Rules.{rules}
-use borrow.Author.Tests.{not-true, not-false}
 use native.Mathlib.Omega.{arith}
-use mathlib.Core.Path.{◌≡◌, refl, sym, ap, ◌∙◌}
+use mathlib.Core.Path.{refl, sym, ap, ◌∙◌}
 use Rattle.text.specs.Tables.{as_table}
 use Rattle.clauses.specs.declared.Answer.{Answer}
 use Rattle.clauses.specs.Laying.{marked}
@@ -31,7 +29,7 @@ returns-then-many-gt-CLAUSES-clause-fits c =
 pub returns-then-many-gt-CLAUSES-clause-stage : goal.returns-then-many-gt-CLAUSES-clause-stage
 returns-then-many-gt-CLAUSES-clause-stage c =
     let a = c.args in let o = c.lay_out-p in (λ w f h r. over_clauses a.text.now a.made.now (as_table a.nodes.now a.used) f w.nodes h r (marked a.conjunctive) _ c.within-end.ensures.0 o.new.plan o.result
-            o.ensures.0 o.ensures.2 _ c.entry-root.ensures (ap (λ (s : Answer). s.fate) c.none-then-many-gt-CLAUSES.ensures) (omega (arith, c.if-many-gt-CLAUSES.true, c.clauses-many.ensures.0)))
+    o.ensures.0 o.ensures.2 _ c.entry-root.ensures (ap (λ (s : Answer). s.fate) c.none-then-many-gt-CLAUSES.ensures) (omega (arith, c.if-many-gt-CLAUSES.true, c.clauses-many.ensures.0)))
 
 pub returns-then-many-gt-CLAUSES-clause-sizes : goal.returns-then-many-gt-CLAUSES-clause-sizes
 returns-then-many-gt-CLAUSES-clause-sizes c = let a = c.args in let o = c.lay_out-p in (refl, refl, refl)
@@ -43,7 +41,7 @@ returns-then-literals-gt-LITERALS-clause-fits c =
 pub returns-then-literals-gt-LITERALS-clause-stage : goal.returns-then-literals-gt-LITERALS-clause-stage
 returns-then-literals-gt-LITERALS-clause-stage c =
     let a = c.args in let o = c.lay_out-p in (λ w f h r. over_literals a.text.now a.made.now (as_table a.nodes.now a.used) f w.nodes h r (marked a.conjunctive) _ c.within-end.ensures.0 o.new.plan o.result
-            o.ensures.0 o.ensures.2 _ c.entry-root.ensures (ap (λ (s : Answer). s.fate) c.none-then-literals-gt-LITERALS.ensures) (omega (arith, c.if-literals-gt-LITERALS.true, c.literals.ensures.0)))
+    o.ensures.0 o.ensures.2 _ c.entry-root.ensures (ap (λ (s : Answer). s.fate) c.none-then-literals-gt-LITERALS.ensures) (omega (arith, c.if-literals-gt-LITERALS.true, c.literals.ensures.0)))
 
 pub returns-then-literals-gt-LITERALS-clause-sizes : goal.returns-then-literals-gt-LITERALS-clause-sizes
 returns-then-literals-gt-LITERALS-clause-sizes c = let a = c.args in let o = c.lay_out-p in (refl, refl, refl)
@@ -68,14 +66,14 @@ returns-clause-fits c =
 pub returns-clause-stage : goal.returns-clause-stage
 returns-clause-stage c =
     let a = c.args in let o = c.lay_out-p in let l = c.collect-distinct in let g = c.gather-grown.ensures in (λ w f h r. set_given a.text.now a.made.now (as_table a.nodes.now a.used) f w.nodes h r (marked a.conjunctive) _ c.within-end.ensures.0 o.new.plan o.result
-            o.ensures.0 o.ensures.2 _ c.entry-root.ensures (omega (arith, c.if-many-gt-CLAUSES.false, c.clauses-many.ensures.0)) (omega (arith, c.if-literals-gt-LITERALS.false, c.literals.ensures.0)) l.new.atoms l.result
-            l.ensures.safe.0 l.ensures.safe.1 l.ensures.does c.label.new.plan c.label.ensures.does
-            refl refl (λ b rest x e t. g.does b rest x (c.clauses-many.ensures.0 ∙ e) t))
+    o.ensures.0 o.ensures.2 _ c.entry-root.ensures (omega (arith, c.if-many-gt-CLAUSES.false, c.clauses-many.ensures.0)) (omega (arith, c.if-literals-gt-LITERALS.false, c.literals.ensures.0)) l.new.atoms l.result
+    l.ensures.safe.0 l.ensures.safe.1 l.ensures.does c.label.new.plan c.label.ensures.does
+    refl refl (λ b rest x e t. g.does b rest x (c.clauses-many.ensures.0 ∙ e) t))
 
 pub returns-clause-sizes : goal.returns-clause-sizes
 returns-clause-sizes c =
     let a = c.args in let o = c.lay_out-p in let l = c.collect-distinct in let g = c.gather-grown.ensures in (
-          l.ensures.safe.0 ∙ sym (c.are_whole.ensures.yes (c.if-not-are_whole.false)).atoms,
-          g.safe.0.store_len ∙ sym (c.are_whole.ensures.yes (c.if-not-are_whole.false)).literals,
-          g.safe.0.index_len ∙ sym (c.are_whole.ensures.yes (c.if-not-are_whole.false)).index,
-        )
+      l.ensures.safe.0 ∙ sym (c.are_whole.ensures.yes (c.if-not-are_whole.false)).atoms,
+      g.safe.0.store_len ∙ sym (c.are_whole.ensures.yes (c.if-not-are_whole.false)).literals,
+      g.safe.0.index_len ∙ sym (c.are_whole.ensures.yes (c.if-not-are_whole.false)).index,
+    )

@@ -1,10 +1,8 @@
 -- Every byte passed is zero, and those behind are as they were.
-use borrow.Author.Rules.{rules}
 use native.Mathlib.Omega.{arith}
-use Prim.Native.Nat.{◌≤◌, ◌-◌}
-use mathlib.Core.Path.{◌≡◌, refl, ap, ◌∙◌}
-use mathlib.Core.List.{◌++◌, append-nil}
-use lib.ListN.{length, replicate, drop, length-append, length-replicate, length-drop, length-set}
+use mathlib.Core.Path.{◌≡◌, refl, ◌∙◌}
+use mathlib.Core.List.{append-nil}
+use lib.ListN.{length, length-set}
 use lib.Seq.{drop-length}
 use borrow.Author.Fill.{fill_more}
 use Rattle.convert.proofs.clear.Goals as goal

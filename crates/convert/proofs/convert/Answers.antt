@@ -1,5 +1,4 @@
 -- Refusal 9 leaves both buffers; else the answer is that of the inside, and work is cleared.
-use borrow.Author.Rules.{rules}
 use native.Mathlib.Omega.{arith}
 use mathlib.Core.Path.{refl, ap, ◌∙◌}
 use Prim.Native.Nat.{ℕ}

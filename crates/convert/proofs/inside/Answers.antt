@@ -1,5 +1,4 @@
 -- What was read decides: a refusal with its line, or the tree's form.
-use borrow.Author.Rules.{rules}
 use mathlib.Core.Path.{refl, sym}
 use Rattle.convert.proofs.Shown.{as_well, is_refused, was_tree, was_malformed, was_large}
 use Rattle.convert.proofs.inside.Goals as goal

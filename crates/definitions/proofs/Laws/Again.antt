@@ -1,6 +1,6 @@
 -- Simplifying again changes nothing; so the Rust's second calls (`this.formula.simplify()`, `FOF::not(left).simplify()`) give what `turn` gives.
-use Rattle.std.specs.Prelude.{◌≡◌, refl, Bool, true, false, not, ◌&&◌, ◌||◌, cond, List, [], ◌∷◌}
-use Rattle.std.proofs.Common.{sym, ◌∙◌, ap, ap₂}
+use Rattle.std.specs.Prelude.{◌≡◌, refl, Bool, true, false, cond, List, [], ◌∷◌}
+use Rattle.std.proofs.Common.{◌∙◌, ap, ap₂}
 use Rattle.definitions.specs.Bytes.{same}
 use Rattle.definitions.specs.Syntax.{Formula, Name, Op, Quant, and, bin, blk, bot, eq, iff, imp, neg, or, pred, top}
 use Rattle.definitions.specs.Names.{filter, free, keep, mem}

@@ -1,14 +1,13 @@
 -- What a block of variables says: some (every) assignment that differs from the given one at most on them.
-use Rattle.std.specs.Prelude.{◌≡◌, Bool, true, false, not, ◌&&◌, ◌||◌, cond}
+use Rattle.std.specs.Prelude.{◌≡◌, Bool, true, false, not, ◌&&◌, ◌||◌}
 use Rattle.std.proofs.Math.Path.{refl, sym, ap, fun_ext}
-use Rattle.std.proofs.Common.{◌∙◌, ap₂}
+use Rattle.std.proofs.Common.{◌∙◌}
 use Rattle.std.proofs.Math.Bool.{not-not}
 use mathlib.Core.List.{List, [], ◌∷◌, Memᴰ}
 use Rattle.definitions.specs.Bytes.{same}
 use Rattle.definitions.specs.Syntax.{Name, Quant, all, ex}
 use Rattle.definitions.specs.Names.{mem}
 use Rattle.definitions.specs.Truth.{Assign, Domain, any, block, every, over, set}
-use Rattle.definitions.specs.Simplify.{turn}
 use Rattle.definitions.specs.Negation.{flip}
 use Rattle.definitions.proofs.Laws.Bools.{by_cases, clash, not_and, not_or, or_false_left, or_false_right, or_left, or_right, same_truth}
 use Rattle.definitions.proofs.Laws.Sets.{same_eq}

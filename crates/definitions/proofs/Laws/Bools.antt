@@ -1,7 +1,6 @@
 -- Booleans as truth values: two are equal when each implies the other; cases on a computed Boolean with its equation.
-use Rattle.std.specs.Prelude.{◌≡◌, refl, T, Bool, true, false, not, ◌&&◌, ◌||◌, cond}
+use Rattle.std.specs.Prelude.{◌≡◌, refl, T, Bool, true, false, not, ◌&&◌, ◌||◌}
 use Rattle.std.proofs.Common.{sym, ◌∙◌, ap, true≢false}
-use Rattle.std.proofs.lemmas.Bool.{false≢true}
 
 pub by_cases {ℓ} : {A : Type ℓ} (b : Bool) → (b ≡ true → A) → (b ≡ false → A) → A
 by_cases true f g = f refl

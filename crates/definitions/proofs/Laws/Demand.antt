@@ -1,20 +1,20 @@
 -- Demand 3: wherever a form is given, in every finite nonempty structure and under every assignment, it stands to the rule as it should.
-use Rattle.std.specs.Prelude.{◌≡◌, refl, Bool, true, false, not, ◌&&◌, ◌||◌, cond, List, ◌↔◌, ℕ}
+use Rattle.std.specs.Prelude.{◌≡◌, refl, true, not, List, ◌↔◌}
 use Rattle.std.proofs.Common.{sym, ◌∙◌, ap}
 use Rattle.definitions.specs.Bytes.{Bytes}
 use Rattle.definitions.specs.Syntax.{Formula, Quant, all, ex}
 use Rattle.definitions.specs.Limits.{Limits}
 use Rattle.definitions.specs.RuleText.{written}
 use Rattle.definitions.specs.Reading.{read, tree}
-use Rattle.definitions.specs.Truth.{Assign, Domain, Meaning, every, set, truth}
+use Rattle.definitions.specs.Truth.{Assign, Domain, Meaning, every, truth}
 use Rattle.definitions.specs.Simplify.{simplify}
 use Rattle.definitions.specs.Negation.{nnf}
-use Rattle.definitions.specs.Prenex.{Prenex, all_only, bare, formula, is_prenex_form, is_skolem, no_block, parted, pnf}
+use Rattle.definitions.specs.Prenex.{Prenex, all_only, formula, is_prenex_form, is_skolem, no_block, parted, pnf}
 use Rattle.definitions.specs.Skolem.{AlikeBut, Symbol, hash_free, skolem_formula, zero_counts}
 use Rattle.definitions.specs.Order.{Clause, cmp_clause, cmp_literal}
 use Rattle.definitions.specs.Clauses.{clauses, listing, set_truth}
 use Rattle.definitions.specs.Convert.{as_clauses, convert, convert_tree, given, snf_of_prenex, pnf_to_snf, refused_if, snf, snf_to_cnf, snf_to_dnf, through_skolem, to_cnf, to_dnf, to_nnf, to_pnf, to_simplified, to_snf}
-use Rattle.definitions.proofs.Laws.Bools.{and_true_left, same_truth}
+use Rattle.definitions.proofs.Laws.Bools.{and_true_left}
 use Rattle.definitions.proofs.Laws.Simplify.{simplify_truth}
 use Rattle.definitions.proofs.Laws.Negation.{nnf_truth}
 use Rattle.definitions.proofs.Laws.Prenex.{outward_no_block, pnf_truth}

@@ -1,10 +1,8 @@
 -- The names that an exists block draws, the terms that it puts in, and new values for just what it draws.
-use Rattle.std.specs.Prelude.{◌≡◌, Bool, true, false, not, ◌&&◌, ◌||◌, cond, ◌↔◌, ℕ, zero, suc, ◌+◌, ◌≤◌, ◌<◌, eqb, length}
-use Rattle.std.proofs.Math.Path.{refl, fun_ext}
-use Rattle.std.proofs.Common.{sym, ◌∙◌, ap, ap₂, arith}
-use Rattle.std.proofs.Math.Bool.{or-false, and-false, and-true}
-use mathlib.Core.List.{List, [], ◌∷◌, ◌++◌, tail}
-use Rattle.std.proofs.Math.Dec.{eqb_refl}
+use Rattle.std.specs.Prelude.{◌≡◌, Bool, true, false, ◌&&◌, ◌||◌, cond, ℕ, suc, ◌+◌, ◌≤◌, ◌<◌, eqb, length}
+use Rattle.std.proofs.Math.Path.{refl}
+use Rattle.std.proofs.Common.{sym, ap, arith}
+use mathlib.Core.List.{List, [], ◌∷◌, tail}
 use Rattle.definitions.specs.Bytes.{same}
 use Rattle.definitions.specs.Syntax.{Name, Term, var}
 use Rattle.definitions.specs.Names.{mem}

@@ -1,6 +1,6 @@
 -- The domain 0 .. n, of any size from 1 on: the laws speak of all of these.
-use Rattle.std.specs.Prelude.{◌≡◌, refl, ◌≢◌, Bool, true, false, ℕ, zero, suc, ◌≤◌, ◌<◌, T, ltb, eqb, length}
-use Rattle.std.proofs.Common.{sym, ◌∙◌, ap, arith, ltb→lt, lt→ltb, eqb→eq, le_refl}
+use Rattle.std.specs.Prelude.{◌≡◌, refl, ◌≢◌, true, false, ℕ, zero, suc, ◌≤◌, ◌<◌, ltb, eqb, length}
+use Rattle.std.proofs.Common.{◌∙◌, ap, arith, ltb→lt, lt→ltb, eqb→eq, le_refl}
 use mathlib.Core.HLevel.{Σ_prop_path}
 use Rattle.std.proofs.Math.Bool.{Bool-set}
 use mathlib.Core.List.{List, [], ◌∷◌, Memᴰ}
@@ -8,7 +8,6 @@ use Rattle.std.proofs.Math.Dec.{eqb_refl}
 use Rattle.definitions.specs.Bytes.{same}
 use Rattle.definitions.specs.Syntax.{Formula, all, blk, eq, ex, neg, var}
 use Rattle.definitions.specs.Truth.{Domain, Meaning, any, block, every, truth, val}
-use Rattle.definitions.specs.Order.{rel}
 use Rattle.definitions.proofs.Laws.Bools.{T→, by_cases, clash, →T}
 
 abbrev pub Below : ℕ → Type 0

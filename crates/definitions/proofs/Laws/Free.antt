@@ -1,13 +1,12 @@
 -- The truth value of a formula depends on the values of its free variables only.
-use Rattle.std.specs.Prelude.{◌≡◌, Bool, true, false, ◌&&◌, ◌||◌, cond, List, [], ◌∷◌, ◌++◌}
-use Rattle.std.proofs.Math.Path.{refl, ap, ap₂, fun_ext}
+use Rattle.std.specs.Prelude.{◌≡◌, Bool, true, false, cond, List, [], ◌∷◌}
+use Rattle.std.proofs.Math.Path.{refl, ap, ap₂}
 use Rattle.std.proofs.Common.{sym, ◌∙◌}
 use Rattle.std.proofs.Math.Bool.{not}
 use Rattle.definitions.specs.Syntax.{Formula, Name, Quant, Term, Terms, app, bin, blk, bot, con, cons, eq, neg, nil, pred, top, var}
 use Rattle.definitions.specs.Names.{free, mem, term_vars, terms_vars, union}
 use Rattle.definitions.specs.Reading.{agree}
 use Rattle.definitions.specs.Truth.{Assign, Domain, Meaning, block, join, truth, val, vals}
-use Rattle.definitions.specs.Order.{rel}
 use Rattle.definitions.proofs.Laws.Bools.{by_cases, or_left, or_right}
 use Rattle.definitions.proofs.Laws.Sets.{mem_filter, mem_head, mem_union}
 use Rattle.definitions.proofs.Laws.Blocks.{Match, Off, block_same}

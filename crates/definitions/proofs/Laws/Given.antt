@@ -1,6 +1,6 @@
 -- Where a conversion gives a text, the rule was read, no stage refused it, and the text is that of the form.
-use Rattle.std.specs.Prelude.{◌≡◌, refl, Bool, true, false, not, ◌&&◌, ◌||◌, cond, ℕ}
-use Rattle.std.proofs.Common.{sym, ◌∙◌, ap, arith}
+use Rattle.std.specs.Prelude.{◌≡◌, refl, Bool, true, false, not, ℕ}
+use Rattle.std.proofs.Common.{sym, arith}
 use Rattle.definitions.specs.Bytes.{Bytes}
 use Rattle.definitions.specs.Syntax.{Formula, Quant}
 use Rattle.definitions.specs.Limits.{Limits}
@@ -8,7 +8,7 @@ use Rattle.definitions.specs.Reading.{Reading, large, malformed, read, tree}
 use Rattle.definitions.specs.Simplify.{simplify}
 use Rattle.definitions.specs.Negation.{nnf}
 use Rattle.definitions.specs.Prenex.{formula, pnf}
-use Rattle.definitions.specs.Skolem.{hash_free, skolem, skolem_formula}
+use Rattle.definitions.specs.Skolem.{hash_free, skolem_formula}
 use Rattle.definitions.specs.Clauses.{clauses, listing, raw}
 use Rattle.definitions.specs.Convert.{Conversion, Result, as_clauses, convert, convert_reading, convert_tree, given, refused, refused_if, snf, stage, through_prenex, through_skolem, too_large, too_long, too_many}
 

@@ -1,5 +1,5 @@
 -- A symbol that a rule lacks, its simplified and its prenex form lack too; so a rule without `#` has none of the names that are drawn.
-use Rattle.std.specs.Prelude.{◌≡◌, Bool, true, false, not, ◌&&◌, ◌||◌, cond, ℕ}
+use Rattle.std.specs.Prelude.{◌≡◌, Bool, true, false, not, cond}
 use Rattle.std.proofs.Math.Path.{refl}
 use Rattle.std.proofs.Common.{sym, ◌∙◌, ap}
 use mathlib.Core.List.{List, [], ◌∷◌, ◌++◌}

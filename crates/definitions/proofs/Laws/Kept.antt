@@ -1,8 +1,8 @@
 -- What the stages keep: no stage makes a function wider, simplify and the negation form make no name and simplify makes nothing heavier.
 -- So a rule within the limits is never refused by simplify, and by the negation form for its weight only.
-use Rattle.std.specs.Prelude.{◌≡◌, Bool, true, false, ◌&&◌, ◌||◌, cond, ℕ, zero, suc, ◌+◌, ◌≤◌, ◌<◌, max, leb, ltb, length}
+use Rattle.std.specs.Prelude.{◌≡◌, Bool, true, false, cond, ℕ, ◌≤◌, max, leb}
 use Rattle.std.proofs.Math.Path.{refl}
-use Rattle.std.proofs.Common.{sym, ◌∙◌, ap, ap₂, le-leb, leb-true, ltb-true}
+use Rattle.std.proofs.Common.{leb-true}
 use Rattle.std.proofs.Math.Bool.{not}
 use mathlib.Core.List.{List, [], ◌∷◌, ◌++◌}
 use native.Mathlib.Omega.{arith}

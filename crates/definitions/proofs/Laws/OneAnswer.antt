@@ -1,8 +1,8 @@
 -- What a call promises leaves one answer: two outcomes that meet the promise are the same; and the versions that document 01 shuts out
 -- do not meet it: the one that refuses everything, the one with a constant result, the one that writes nothing, and the one that goes to
 -- prenex and copies it onward.
-use Rattle.std.specs.Prelude.{◌≡◌, refl, Bool, true, false, not, ◌&&◌, ◌||◌, cond, List, [], ◌∷◌, ◌++◌, ℕ, length, replicate}
-use Rattle.std.proofs.Common.{sym, ◌∙◌, ap, true≢false, arith}
+use Rattle.std.specs.Prelude.{◌≡◌, refl, false, [], ◌∷◌, ℕ, length, replicate}
+use Rattle.std.proofs.Common.{sym, ◌∙◌, ap, true≢false}
 use Rattle.definitions.specs.Bytes.{Bytes, begins, behind_each, decimal, digits, number, same, skip, split, value}
 use Rattle.definitions.specs.Syntax.{Formula, blk, bot, con, cons, count, depth, ex, nil, pred, term_depth, term_weight, terms_depth, terms_weight, top, var, weight}
 use Rattle.definitions.specs.Limits.{Limits, house, published}
@@ -12,11 +12,11 @@ use Rattle.definitions.specs.Reading.{all_names, drop_terms, look_up, of_kind, p
 use Rattle.definitions.specs.Truth.{every}
 use Rattle.definitions.specs.Simplify.{is_bot, is_top, over_kept, simplify, tidy, turn}
 use Rattle.definitions.specs.Negation.{nnf, push_negation}
-use Rattle.definitions.specs.Prenex.{all_only, apart, close, flips, fresh, fresh_from, is_prenex_form, is_skolem, longest, news, no_block, olds, outward, parted, pnf, pull, pull_right, renames, shades, sub, term_sub, terms_sub, to}
+use Rattle.definitions.specs.Prenex.{all_only, close, flips, fresh, fresh_from, is_prenex_form, is_skolem, longest, news, no_block, olds, outward, parted, pnf, pull, pull_right, renames, shades, sub, term_sub, terms_sub, to}
 use Rattle.definitions.specs.Skolem.{among, as_vars, binders, constant_name, drawn_symbols, holds_hash, hash_free, put, skolem, skolemise}
 use Rattle.definitions.specs.Order.{cmp_atom, cmp_list, cmp_literal, cmp_term, cmp_terms, insert, pos, rel, set_of}
 use Rattle.definitions.specs.Clauses.{clauses, clauses_text, distribute, listing, literals_text, product, raw}
-use Rattle.definitions.specs.Convert.{Answer, Conversion, Result, answer, as_clauses, convert, convert_tree, given, laid, out_after, pnf_to_snf, refused, snf_to_cnf, snf_to_dnf, to_cnf, to_dnf, to_nnf, to_pnf, to_simplified, to_snf, too_large, too_long, too_many, work_after}
+use Rattle.definitions.specs.Convert.{Answer, Conversion, Result, answer, as_clauses, convert, convert_tree, given, out_after, pnf_to_snf, refused, snf_to_cnf, snf_to_dnf, to_cnf, to_dnf, to_nnf, to_pnf, to_simplified, to_snf, too_large, too_long, too_many, work_after}
 use Rattle.definitions.proofs.Laws.Sets.{same_refl}
 use Rattle.definitions.proofs.Laws.Given.{given_inj, never_given}
 

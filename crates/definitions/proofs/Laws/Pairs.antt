@@ -1,5 +1,5 @@
 -- Document 01's starred pairs, as one list under a single statement, from rule text to result text.
-use Rattle.std.specs.Prelude.{◌≡◌, refl, Bool, true, false, List, [], ◌∷◌, ◌++◌, ℕ}
+use Rattle.std.specs.Prelude.{◌≡◌, refl, List, [], ◌∷◌, ◌++◌, ℕ}
 use Prim.Native.Nat.{Ordering}
 use Rattle.definitions.specs.Bytes.{begins, behind_each, decimal, digits, number, same, skip, split, value}
 use Rattle.definitions.specs.Syntax.{Formula, Name, Term, Terms, all, and, app, bin, blk, bot, con, cons, count, depth, ex, iff, imp, neg, nil, or, pred, term_depth, term_weight, terms_depth, terms_weight, top, var, weight}

@@ -1,10 +1,10 @@
 -- A rule within the limits passes stage 1 always, and stage 4 unless its negation form is too heavy; what each stage leaves to be tested.
-use Rattle.std.specs.Prelude.{◌≡◌, Bool, true, false, ◌&&◌, ◌||◌, cond, ℕ, zero, suc, ◌+◌, ◌≤◌, ◌<◌, max, leb, ltb, length}
+use Rattle.std.specs.Prelude.{◌≡◌, Bool, true, false, ◌&&◌, cond, ℕ, suc, ◌+◌, ◌≤◌, leb, ltb, length}
 use Rattle.std.proofs.Math.Path.{refl, ap}
-use Rattle.std.proofs.Common.{sym, ◌∙◌, ap₂, arith}
+use Rattle.std.proofs.Common.{sym, ◌∙◌, arith}
 use Rattle.std.proofs.Math.Bool.{not, or-false}
 use mathlib.Core.List.{List, [], ◌∷◌, ◌++◌}
-use borrow.Author.Tests.{le-leb, leb-true, ltb-true, ltb-false}
+use borrow.Author.Tests.{le-leb, ltb-true}
 use Rattle.definitions.specs.Bytes.{null, same}
 use Rattle.definitions.specs.Syntax.{Formula, Name, Op, Quant, Term, Terms, and, app, bin, blk, bot, con, cons, count, eq, iff, imp, neg, nil, or, pred, top, var, weight}
 use Rattle.definitions.specs.Limits.{Limits}
@@ -14,7 +14,6 @@ use Rattle.definitions.specs.Reading.{all_names}
 use Rattle.definitions.specs.Truth.{every}
 use Rattle.definitions.specs.Simplify.{is_bot, is_top, over_kept, simplify, tidy, turn}
 use Rattle.definitions.specs.Negation.{nnf}
-use Rattle.definitions.specs.Skolem.{arguments}
 use Rattle.definitions.specs.Convert.{Result, refused_if, stage, too_large, too_long}
 use Rattle.definitions.proofs.Laws.Bools.{and_both, and_true_left, and_true_right, by_cases, clash, or_left, or_right}
 use Rattle.definitions.proofs.Laws.Sets.{mem_filter, same_eq, same_refl}

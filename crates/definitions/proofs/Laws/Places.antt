@@ -11,7 +11,7 @@ use native.Mathlib.Omega.{arith}
 use borrow.Author.Tests.{le-leb, not-true}
 use Rattle.std.proofs.Math.ListN.{length}
 use Rattle.definitions.specs.Bytes.{Bytes, LF, split}
-use Rattle.definitions.specs.Syntax.{Formula, weight}
+use Rattle.definitions.specs.Syntax.{Formula}
 use Rattle.definitions.specs.Limits.{Limits}
 use Rattle.definitions.specs.RuleText.{Node, line, lines, nodes, written}
 use Rattle.definitions.specs.Reading.{parse, node_weight, is_term, Due, some_due, parts, agree, bad, place, bad_line, scan, malformed, read}

@@ -1,7 +1,7 @@
 -- The prenex form keeps the truth value, and its matrix has no block.
-use Rattle.std.specs.Prelude.{◌≡◌, Bool, true, false, ◌&&◌, ◌||◌, cond, List, [], ◌∷◌, ◌++◌}
+use Rattle.std.specs.Prelude.{◌≡◌, Bool, true, false, ◌&&◌, ◌||◌, List, ◌++◌}
 use Rattle.std.proofs.Math.Path.{refl, sym, ap, ap₂, fun_ext}
-use Rattle.std.proofs.Common.{◌∙◌, subst}
+use Rattle.std.proofs.Common.{◌∙◌}
 use Rattle.std.proofs.Math.Bool.{not, and-true, and-false, or-true, or-false}
 use Rattle.std.specs.Bool.{beq}
 use Rattle.definitions.specs.Syntax.{Formula, Name, Op, Quant, and, bin, blk, bot, eq, iff, imp, neg, or, pred, top, var}

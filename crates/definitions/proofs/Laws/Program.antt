@@ -1,12 +1,11 @@
 -- What the file program prints for a well-made file: the `done` line, and then for each rule its `rule` line and what the conversion gives
 -- of its text. Each rule stands for itself: what is printed for it depends on its own text alone.
-use Rattle.std.specs.Prelude.{◌≡◌, refl, Bool, true, false, not, ◌&&◌, ◌||◌, cond, List, [], ◌∷◌, ◌++◌, ℕ, ◌≤◌, eqb, leb, length, drop}
-use Rattle.std.proofs.Common.{sym, ◌∙◌, ap, ap₂, append_assoc, append-nil, arith, le-leb, eqb-true}
-use Rattle.std.proofs.Math.Option.{Option, none, some}
+use Rattle.std.specs.Prelude.{◌≡◌, refl, Bool, true, false, not, ◌&&◌, List, [], ◌∷◌, ◌++◌, ℕ, ◌≤◌, eqb, length}
+use Rattle.std.proofs.Common.{sym, ◌∙◌, ap, append_assoc, append-nil, arith, le-leb, eqb-true}
+use Rattle.std.proofs.Math.Option.{some}
 use Rattle.definitions.specs.Bytes.{Bytes, LF, TAB, begins, null, onto, same}
 use Rattle.definitions.specs.Limits.{Limits}
-use Rattle.definitions.specs.RuleText.{is_name, line, simple_name}
-use Rattle.definitions.specs.Reading.{alone, before, rest}
+use Rattle.definitions.specs.RuleText.{is_name, simple_name}
 use Rattle.definitions.specs.Convert.{Conversion, convert, pnf_to_snf, snf_to_cnf, snf_to_dnf, to_cnf, to_dnf, to_nnf, to_pnf, to_simplified, to_snf}
 use Rattle.definitions.specs.Program.{Rule, conversion_of, conversion_word, conversions, cut, do_word, done_word, field_line, good_label, is_rule, label, of_lines, parts, printed, program, rule_output, rule_word, rules_output, without_end}
 use Rattle.definitions.proofs.Laws.Bools.{and_true_left, and_true_right, by_cases, clash}

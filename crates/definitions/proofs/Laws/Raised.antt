@@ -1,10 +1,10 @@
 -- Demand 3, last sentence: raised limits, or a longer out buffer, never turn a form that was given into anything else.
-use Rattle.std.specs.Prelude.{◌≡◌, refl, Bool, true, false, ◌&&◌, ◌||◌, cond, List, [], ◌∷◌, ◌++◌, ℕ, ◌≤◌, ◌<◌, ◌*◌, ltb, length, drop, take}
+use Rattle.std.specs.Prelude.{◌≡◌, refl, Bool, true, false, ◌||◌, List, [], ◌∷◌, ◌++◌, ℕ, ◌≤◌, ltb, length, drop, take}
 use Rattle.std.proofs.Common.{sym, ◌∙◌, arith, take_at}
 use Rattle.std.proofs.Math.Path.{ap}
 use Rattle.std.proofs.Math.Bool.{not}
 use Rattle.std.proofs.Math.Dec.{leb}
-use borrow.Author.Tests.{le-leb, leb-true, lt-leb, ltb-false, ltb-true}
+use borrow.Author.Tests.{le-leb, leb-true, ltb-false, ltb-true}
 use Rattle.definitions.specs.Bytes.{Bytes}
 use Rattle.definitions.specs.Syntax.{Formula, Name, Quant, all, ex, weight}
 use Rattle.definitions.specs.Limits.{Limits, Raised, published}
@@ -13,7 +13,7 @@ use Rattle.definitions.specs.Truth.{every}
 use Rattle.definitions.specs.Simplify.{simplify}
 use Rattle.definitions.specs.Negation.{nnf}
 use Rattle.definitions.specs.Prenex.{formula, is_prenex_form, is_skolem, parted, pnf}
-use Rattle.definitions.specs.Skolem.{arguments, hash_free, skolem_formula}
+use Rattle.definitions.specs.Skolem.{hash_free, skolem_formula}
 use Rattle.definitions.specs.Clauses.{Raw, clauses, listing, raw}
 use Rattle.definitions.specs.Convert.{Conversion, Result, accepted, answer, as_clauses, convert, convert_reading, convert_tree, fitted, given, not_given, out_after, snf_of_prenex, pnf_to_snf, refused, refused_if, snf, snf_to_cnf, snf_to_dnf, stage, through_prenex, through_skolem, to_cnf, to_dnf, to_nnf, to_pnf, to_simplified, to_snf, too_large, too_long, too_many}
 use Rattle.definitions.proofs.Laws.Bools.{and_true_left, and_true_right, by_cases, or_false_left, or_false_right}

@@ -10,7 +10,7 @@ use Rattle.std.proofs.Math.Dec.{leb}
 use Rattle.definitions.specs.Bytes.{Bytes, LF, null, split}
 use Rattle.definitions.specs.Syntax.{Formula, weight, depth}
 use Rattle.definitions.specs.Limits.{Limits, Raised}
-use Rattle.definitions.specs.RuleText.{letter, Manner, simple_name, variable_name, symbol_name, behind, is_name, Node, top_node, bot_node, not_node, eq_node, bin_node, block_node, pred_node, fun_node, var_node, con_node, line, lines, nodes, written}
+use Rattle.definitions.specs.RuleText.{letter, Manner, simple_name, variable_name, symbol_name, behind, is_name, Node, top_node, bot_node, not_node, eq_node, bin_node, block_node, pred_node, fun_node, var_node, con_node, lines, nodes, written}
 use Rattle.definitions.specs.Reading.{all_names, some_due, Scan, read_nodes, bad_line, large_line, scan, Tree, formula_tree, term_tree, as_formula, first, trees, tree, settle, read}
 use Rattle.definitions.proofs.Laws.Bools.{clash, and_true_left, and_true_right}
 use Rattle.definitions.proofs.Laws.Pieces.{join_split}

@@ -1,6 +1,6 @@
 -- Names told apart by a test, and lists of names as sets.
-use Rattle.std.specs.Prelude.{◌≡◌, refl, Bool, true, false, not, ◌&&◌, ◌||◌, cond, List, [], ◌∷◌, ◌++◌, ℕ, zero, suc, T, eqb}
-use Rattle.std.proofs.Common.{sym, ◌∙◌, ap, ap₂, eqb→eq}
+use Rattle.std.specs.Prelude.{◌≡◌, refl, Bool, true, false, not, ◌&&◌, ◌||◌, List, [], ◌∷◌, ◌++◌, eqb}
+use Rattle.std.proofs.Common.{sym, ◌∙◌, ap₂, eqb→eq}
 use Rattle.std.proofs.Math.Bool.{and-false, or_assoc}
 use Rattle.std.proofs.Math.Dec.{eqb_refl}
 use Rattle.definitions.specs.Bytes.{same}

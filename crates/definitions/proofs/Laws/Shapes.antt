@@ -1,16 +1,16 @@
 -- The shape of each form. A negation form has `not` on atoms only, no implies and no iff; a prenex form is blocks and then a matrix with no
 -- block; a Skolem form the same with forall blocks only. So what a stage gives is what the next one asks for.
-use Rattle.std.specs.Prelude.{◌≡◌, refl, Bool, true, false, ◌&&◌, List, ◌++◌, length}
+use Rattle.std.specs.Prelude.{◌≡◌, refl, true, ◌&&◌, List, ◌++◌, length}
 use Rattle.std.proofs.Common.{sym, ◌∙◌, ap, ap₂}
 use Rattle.std.proofs.Math.Bool.{and_self}
-use Rattle.definitions.specs.Syntax.{Name, Op, and, or, imp, iff, all, ex, Formula, top, bot, pred, eq, neg, bin, blk}
+use Rattle.definitions.specs.Syntax.{Name, and, or, imp, iff, all, ex, Formula, top, bot, pred, eq, neg, bin, blk}
 use Rattle.definitions.specs.Names.{without, free}
 use Rattle.definitions.specs.Simplify.{simplify}
 use Rattle.definitions.specs.Negation.{nnf, push_negation}
 use Rattle.definitions.specs.Prenex.{Prefix, plain, more, Prenex, close, formula, add, shades, sub, pnf, parted, no_block, all_only, is_prenex_form, is_skolem}
 use Rattle.definitions.specs.Skolem.{Counts, arguments, put, skolem_term, first_number, counts_after, skolem, skolemise, skolem_formula, zero_counts}
 use Rattle.definitions.specs.Convert.{snf, snf_of_prenex}
-use Rattle.definitions.specs.Laws.Shapes.{is_atom, and_or, negated, ready}
+use Rattle.definitions.specs.Laws.Shapes.{is_atom, negated, ready}
 use Rattle.definitions.proofs.Laws.Bools.{clash, and_true_left, and_true_right}
 use Rattle.definitions.proofs.Laws.Prenex.{sub_no_block, outward_no_block}
 

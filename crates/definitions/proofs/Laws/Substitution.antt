@@ -1,14 +1,13 @@
 -- What putting terms in for variables does to the truth value, where nothing is captured.
-use Rattle.std.specs.Prelude.{◌≡◌, Bool, true, false, ◌&&◌, ◌||◌, cond, List, [], ◌∷◌, ◌++◌}
+use Rattle.std.specs.Prelude.{◌≡◌, true, false, List, ◌∷◌, ◌++◌}
 use Rattle.std.proofs.Math.Path.{refl, sym, ap, ap₂, fun_ext}
-use Rattle.std.proofs.Common.{◌∙◌, subst}
+use Rattle.std.proofs.Common.{◌∙◌}
 use Rattle.std.proofs.Math.Bool.{not, or-false}
 use Rattle.definitions.specs.Bytes.{same}
 use Rattle.definitions.specs.Syntax.{Formula, Name, Term, Terms, app, bin, blk, bot, con, cons, eq, neg, nil, pred, top, var}
 use Rattle.definitions.specs.Names.{bound, mem, term_vars}
 use Rattle.definitions.specs.Truth.{Assign, Domain, Meaning, block, join, truth, val, vals}
 use Rattle.definitions.specs.Prenex.{Subst, shade, sub, term_sub, terms_sub}
-use Rattle.definitions.specs.Order.{rel}
 use Rattle.definitions.proofs.Laws.Bools.{by_cases, clash, or_left, or_right}
 use Rattle.definitions.proofs.Laws.Sets.{mem_append, same_eq}
 use Rattle.definitions.proofs.Laws.Blocks.{Off, block_same}

@@ -1,5 +1,5 @@
 -- The truth value depends on the meaning of a formula's own symbols only. What a substitution brings in.
-use Rattle.std.specs.Prelude.{◌≡◌, Bool, true, false, ◌&&◌, ◌||◌, cond, List, [], ◌∷◌, ◌++◌}
+use Rattle.std.specs.Prelude.{◌≡◌, Bool, true, false, ◌||◌, List, [], ◌∷◌, ◌++◌}
 use Rattle.std.proofs.Math.Path.{refl, ap, ap₂, fun_ext}
 use Rattle.std.proofs.Common.{sym, ◌∙◌}
 use Rattle.std.proofs.Math.Bool.{not, and-false}
@@ -7,7 +7,6 @@ use Rattle.definitions.specs.Syntax.{Formula, Name, Term, Terms, app, bin, blk, 
 use Rattle.definitions.specs.Names.{Sort, constants, free, functions, mem, of_fun, syms, term_syms, term_vars, terms_syms, terms_vars, union}
 use Rattle.definitions.specs.Truth.{Assign, Domain, Meaning, block, join, truth, val, vals}
 use Rattle.definitions.specs.Prenex.{Subst, shade, sub, term_sub, terms_sub}
-use Rattle.definitions.specs.Order.{rel}
 use Rattle.definitions.proofs.Laws.Bools.{by_cases, clash, or_false_left, or_false_right, or_left, or_right}
 use Rattle.definitions.proofs.Laws.Sets.{mem_append, mem_filter, mem_head, mem_union}
 use Rattle.definitions.proofs.Laws.Substitution.{mem_var}

@@ -1,6 +1,6 @@
 -- What a prenex form that is given looks like, at the level of bytes: blocks, and then a matrix with no block and no iff; and the blocks
 -- are the simplified rule's in reading order, iffs written out, each flipped by its sign.
-use Rattle.std.specs.Prelude.{◌≡◌, refl, Bool, true, false, ◌&&◌}
+use Rattle.std.specs.Prelude.{◌≡◌, refl, true, false, ◌&&◌}
 use Rattle.std.proofs.Common.{sym, ap₂, ◌∙◌}
 use Rattle.definitions.specs.Bytes.{Bytes}
 use Rattle.definitions.specs.Syntax.{Op, and, or, imp, iff, Formula, top, bot, pred, eq, neg, bin, blk}
@@ -8,7 +8,7 @@ use Rattle.definitions.specs.Limits.{Limits}
 use Rattle.definitions.specs.RuleText.{written}
 use Rattle.definitions.specs.Reading.{read, tree}
 use Rattle.definitions.specs.Simplify.{simplify}
-use Rattle.definitions.specs.Prenex.{Subst, shade, sub, Prefix, plain, more, Prenex, close, formula, shades, apart, as_subst, pull_right, pull, merge, outward, pnf}
+use Rattle.definitions.specs.Prenex.{Subst, sub, Prefix, plain, more, Prenex, close, formula, shades, apart, as_subst, pull_right, pull, merge, outward, pnf}
 use Rattle.definitions.specs.Convert.{convert, convert_tree, given, to_pnf}
 use Rattle.definitions.proofs.Laws.Bools.{and_both}
 use Rattle.definitions.proofs.Laws.Once.{flat}

@@ -1,6 +1,6 @@
 -- What the stages keep, as a test of a formula's variables and functions.
 use Rattle.std.specs.Prelude.{Bool, true, ◌&&◌, ℕ}
-use Rattle.definitions.specs.Syntax.{Formula, Name, Op, Quant, Term, Terms, app, bin, blk, bot, con, cons, count, eq, neg, nil, pred, top, var}
+use Rattle.definitions.specs.Syntax.{Formula, Name, Term, Terms, app, bin, blk, bot, con, cons, count, eq, neg, nil, pred, top, var}
 use Rattle.definitions.specs.Truth.{every}
 
 -- each variable of a formula, in a block or in a term, passes a test, and so does the number of arguments of each function

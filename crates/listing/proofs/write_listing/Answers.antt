@@ -1,5 +1,4 @@
 -- The listing is measured, and filled in where there is room for it.
-use borrow.Author.Rules.{rules}
 use Rattle.writer.specs.MeasureLaws.{was_short}
 use Rattle.listing.proofs.Same.{not_listed, all_listed}
 use Rattle.listing.proofs.write_listing.Goals as goal

@@ -1,11 +1,9 @@
 -- The six functions that call each other meet their contracts. Each answer joins the runs of its calls by the laws of runs; at a node
 -- the formulae of its kind are looked at, and what is written is their form by definition. The measure is what is left of the source,
 -- five times, and one more for each call that reads nothing.
-use Prim.Native.Nat.{ℕ, ◌<◌, ◌+◌, ◌*◌, ◌-◌}
 use native.Mathlib.Omega.{arith}
 use mathlib.Core.Path.{refl, sym, ◌∙◌}
 use mathlib.Core.List.{[], ◌∷◌}
-use Rattle.definitions.specs.Limits.{house}
 use Rattle.definitions.specs.Negation
 use Rattle.text.specs.Words.{token, sign, code}
 use Rattle.text.specs.WordLaws.{sign_word}

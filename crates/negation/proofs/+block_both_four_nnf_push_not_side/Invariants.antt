@@ -1,15 +1,5 @@
-use Prim.Native.Nat.{ℕ, ◌<◌, ◌+◌, ◌*◌, ◌-◌}
-use native.Mathlib.Omega.{arith}
-use mathlib.Core.Path.{refl, sym, ◌∙◌}
-use mathlib.Core.List.{[], ◌∷◌}
+use Prim.Native.Nat.{◌+◌, ◌*◌, ◌-◌}
 use Rattle.definitions.specs.Limits.{house}
-use Rattle.definitions.specs.Negation
-use Rattle.text.specs.Words.{token, sign, code}
-use Rattle.text.specs.WordLaws.{sign_word}
-use Rattle.text.specs.Shapes.{shaped_constant, shaped_block, no_shape}
-use Rattle.negation.proofs.RunLaws.{seq, again, stop, stop_write, safe_stop, safe_past, safe_at}
-use Rattle.negation.proofs.TermLaws.{over_sides, over_variables}
-use Rattle.negation.proofs.NodeLaws.{by_node, node, nowhere}
 use Rattle.negation.proofs.+block_both_four_nnf_push_not_side.Given as goal
 
 abbrev pub decreases-side : goal.decreases-side

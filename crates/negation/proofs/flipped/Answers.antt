@@ -1,5 +1,4 @@
 -- `negation::flipped` meets its contract.
-use native.Mathlib.Omega.{arith}
 use Rattle.negation.proofs.NodeLaws.{all_flipped, ex_flipped, none_flipped}
 use Rattle.negation.proofs.flipped.Goals as goal
 

@@ -1,5 +1,4 @@
 -- `negation::negation_form` meets its contract: a run from the start of one table to the start of another.
-use borrow.Author.Rules.{rules}
 use native.Mathlib.Omega.{arith}
 use mathlib.Core.Path.{refl, sym, ap, ◌∙◌}
 use Rattle.text.specs.Weights.{words_weight}

@@ -1,5 +1,4 @@
 -- `negation::put` meets its contract.
-use borrow.Author.Rules.{rules}
 use native.Mathlib.Omega.{arith}
 use mathlib.Core.Path.{refl}
 use Rattle.negation.proofs.RunLaws.{no_room, one_word}

@@ -1,11 +1,9 @@
 -- `negation::terms` meets its contract. The loop's invariant is resumption: a run that copies the terms that are left, from where the
 -- loop stands, copies all of them. The measure is what is left of the source.
-use Prim.Native.Nat.{◌-◌}
 use native.Mathlib.Omega.{arith}
 use mathlib.Core.Path.{refl}
-use Rattle.definitions.specs.Limits.{house}
 use Rattle.negation.proofs.RunLaws.{safe_stop, safe_at}
-use Rattle.negation.proofs.TermLaws.{Looping, source_ends, room_ends, once_round, loop_ends}
+use Rattle.negation.proofs.TermLaws.{source_ends, room_ends, once_round, loop_ends}
 use Rattle.negation.proofs.terms.Goals as goal
 
 pub loop-left-init : goal.loop-left-init

@@ -1,5 +1,4 @@
 -- The walk's own fate first, then the names that it wrote.
-use borrow.Author.Rules.{rules}
 use native.Mathlib.Omega.{arith}
 use mathlib.Core.Path.{refl}
 use Rattle.prenex.proofs.Lengths.{long_prefix, long_matrix, all_short}

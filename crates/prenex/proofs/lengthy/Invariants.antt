@@ -1,15 +1,11 @@
-use borrow.Author.Rules.{rules}
-use native.Mathlib.Omega.{arith}
-use mathlib.Core.Path.{◌≡◌, refl, ap}
-use mathlib.Core.Logic.{⊎_elim}
+use mathlib.Core.Path.{◌≡◌}
 use Prim.Native.Nat.{◌-◌}
 use lib.Dec.{ltb}
-use lib.ListN.{length, take}
+use lib.ListN.{take}
 use lib.Seq.{slice}
 use Rattle.definitions.specs.Prenex.{longest}
 use Rattle.text.specs.Words.{tokens}
 use Rattle.text.specs.Prefixes.{names}
-use Rattle.prenex.proofs.Lengths.{found_long, passed_name, passed_other, none_long}
 use Rattle.prenex.proofs.lengthy.Given as goal
 
 abbrev pub invariant-loop-i : goal.invariant-loop-i

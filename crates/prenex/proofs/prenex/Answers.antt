@@ -1,5 +1,4 @@
 -- The weight decides first, then the walk.
-use borrow.Author.Rules.{rules}
 use native.Mathlib.Omega.{arith}
 use Rattle.text.specs.Wholes.{is_whole}
 use Rattle.prenex.proofs.Lengths.{empty_begins}

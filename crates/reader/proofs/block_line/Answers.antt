@@ -1,5 +1,4 @@
 -- The fields are variables, and few enough, just when their tally says so.
-use borrow.Author.Rules.{rules}
 use native.Mathlib.Omega.{arith}
 use lib.ListN.{drop}
 use Rattle.definitions.specs.Bytes.{split}

@@ -1,9 +1,6 @@
 -- No byte before i is the one that is looked for: from i on there are as many left before it.
 use borrow.Author.Rules.{rules}
-use Prim.Native.Nat.{◌≤◌, ◌-◌, ◌+◌}
-use mathlib.Core.Path.{◌≡◌, refl}
-use lib.ListN.{length, drop}
-use Rattle.reader.specs.Lines.{upto}
+use mathlib.Core.Path.{refl}
 use Rattle.reader.proofs.Pieces.{upto_stop, upto_on, upto_end}
 use Rattle.reader.proofs.find.Goals as goal
 

@@ -1,9 +1,7 @@
-use borrow.Author.Rules.{rules}
 use Prim.Native.Nat.{◌≤◌, ◌-◌, ◌+◌}
-use mathlib.Core.Path.{◌≡◌, refl}
+use mathlib.Core.Path.{◌≡◌}
 use lib.ListN.{length, drop}
 use Rattle.reader.specs.Lines.{upto}
-use Rattle.reader.proofs.Pieces.{upto_stop, upto_on, upto_end}
 use Rattle.reader.proofs.find.Given as goal
 
 abbrev pub invariant-loop-i : goal.invariant-loop-i

@@ -1,5 +1,4 @@
 -- The set's number picks the same set in the definition.
-use borrow.Author.Rules.{rules}
 use borrow.Author.Tests.{ne_eqb}
 use Rattle.definitions.specs.RuleText.{tick}
 use Rattle.reader.specs.Lines.{among}

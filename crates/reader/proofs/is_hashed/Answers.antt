@@ -1,5 +1,4 @@
 -- As for a word's byte, with # last.
-use borrow.Author.Rules.{rules}
 use Rattle.definitions.specs.RuleText.{hashed}
 use Rattle.reader.proofs.is_hashed.Goals as goal
 

@@ -1,6 +1,6 @@
 -- The first byte is tested apart; the rest is a name's if the skipping of its bytes comes to the end.
 use borrow.Author.Rules.{rules}
-use borrow.Author.Tests.{le-leb, lt-leb, ne_eqb, not-true, not-false}
+use borrow.Author.Tests.{le-leb, lt-leb, ne_eqb}
 use mathlib.Core.Path.{sym, ap, ◌∙◌}
 use lib.ListN.{length}
 use Rattle.definitions.specs.Bytes.{skip}

@@ -1,5 +1,4 @@
 -- A word's byte is a letter or a digit; the definition asks the letter first too.
-use borrow.Author.Rules.{rules}
 use Rattle.definitions.specs.RuleText.{word}
 use Rattle.reader.proofs.is_word.Goals as goal
 

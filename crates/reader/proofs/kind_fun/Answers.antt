@@ -1,5 +1,4 @@
 -- The word was compared with the last three keywords in turn: the tests that led to an answer are the definition's own.
-use borrow.Author.Rules.{rules}
 use mathlib.Core.Path.{sym, ◌∙◌}
 use Rattle.reader.specs.Lines.{kind_from}
 use Rattle.reader.proofs.kind_fun.Goals as goal

@@ -1,5 +1,4 @@
 -- The tests on the kind are the definition's own.
-use borrow.Author.Rules.{rules}
 use native.Mathlib.Omega.{arith}
 use borrow.Author.Tests.{le-leb, lt-leb}
 use Rattle.reader.proofs.level.Goals as goal

@@ -1,5 +1,4 @@
 -- The keyword is the first field; each group of kinds has its own function for the rest of the line.
-use borrow.Author.Rules.{rules}
 use mathlib.Core.Path.{◌∙◌}
 use Rattle.reader.proofs.Pieces.{split_many}
 use Rattle.reader.proofs.Lines.{long, one_field, more_fields, no_keyword, no_field, plain_more}

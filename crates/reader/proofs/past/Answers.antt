@@ -1,11 +1,6 @@
 -- The bytes before i are in the set: from i on the same is skipped.
 use borrow.Author.Rules.{rules}
-use borrow.Author.Tests.{not-true, not-false}
-use Prim.Native.Nat.{◌≤◌, ◌-◌}
-use mathlib.Core.Path.{◌≡◌, refl, sym, ◌∙◌}
-use lib.ListN.{length, drop}
-use Rattle.definitions.specs.Bytes.{skip}
-use Rattle.reader.specs.Lines.{among}
+use mathlib.Core.Path.{refl, sym, ◌∙◌}
 use Rattle.reader.proofs.Pieces.{skip_stop, skip_on, skip_end}
 use Rattle.reader.proofs.past.Goals as goal
 

@@ -1,11 +1,8 @@
-use borrow.Author.Rules.{rules}
-use borrow.Author.Tests.{not-true, not-false}
 use Prim.Native.Nat.{◌≤◌, ◌-◌}
-use mathlib.Core.Path.{◌≡◌, refl, sym, ◌∙◌}
+use mathlib.Core.Path.{◌≡◌}
 use lib.ListN.{length, drop}
 use Rattle.definitions.specs.Bytes.{skip}
 use Rattle.reader.specs.Lines.{among}
-use Rattle.reader.proofs.Pieces.{skip_stop, skip_on, skip_end}
 use Rattle.reader.proofs.past.Given as goal
 
 abbrev pub invariant-loop-i : goal.invariant-loop-i

@@ -1,10 +1,8 @@
 -- The loop keeps `State` of ReaderRuns; each way out of it, and round it again, has one law there.
 use borrow.Author.Rules.{rules}
 use native.Mathlib.Omega.{arith}
-use Prim.Native.Nat.{◌-◌}
 use mathlib.Core.Path.{refl}
-use lib.ListN.{length}
-use Rattle.reader.proofs.Runs.{State, starts, ends, ends_bare, ends_due, stops_bad, stops_large, leads}
+use Rattle.reader.proofs.Runs.{starts, ends, ends_bare, ends_due, stops_bad, stops_large, leads}
 use Rattle.reader.proofs.read.Goals as goal
 
 pub loop-due-init : goal.loop-due-init

@@ -1,9 +1,7 @@
 -- A level of which nothing is due adds nothing to what is due.
 use borrow.Author.Rules.{rules}
 use native.Mathlib.Omega.{arith}
-use Prim.Native.Nat.{◌≤◌}
-use mathlib.Core.Path.{◌≡◌, refl, ◌∙◌}
-use Rattle.reader.specs.Levels.{due_of}
+use mathlib.Core.Path.{refl, ◌∙◌}
 use Rattle.reader.proofs.Steps.{nothing_due}
 use Rattle.reader.proofs.settle.Goals as goal
 

@@ -1,9 +1,6 @@
-use borrow.Author.Rules.{rules}
-use native.Mathlib.Omega.{arith}
 use Prim.Native.Nat.{◌≤◌}
-use mathlib.Core.Path.{◌≡◌, refl, ◌∙◌}
+use mathlib.Core.Path.{◌≡◌}
 use Rattle.reader.specs.Levels.{due_of}
-use Rattle.reader.proofs.Steps.{nothing_due}
 use Rattle.reader.proofs.settle.Given as goal
 
 abbrev pub invariant-loop-n : goal.invariant-loop-n

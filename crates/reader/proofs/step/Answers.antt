@@ -1,5 +1,4 @@
 -- Each way out has one law of ReaderSteps: nothing due, no node, the wrong sort, too deep, too heavy, or on.
-use borrow.Author.Rules.{rules}
 use native.Mathlib.Omega.{arith}
 use mathlib.Core.Path.{refl, sym, ap, ◌∙◌}
 use lib.ListN.{length-set}

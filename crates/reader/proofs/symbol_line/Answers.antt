@@ -1,7 +1,5 @@
 -- Each way out has one law of ReaderLines: the fields that were found are those that the definition looks at.
-use borrow.Author.Rules.{rules}
 use native.Mathlib.Omega.{arith}
-use borrow.Author.Tests.{not-true, not-false}
 use mathlib.Core.Path.{sym, ◌∙◌}
 use Rattle.reader.proofs.Lines.{name_fits, bad_name, symbol_more, symbol_alone, applied_one, applied_more, applied_large, applied_fine, sees_name}
 use Rattle.reader.proofs.symbol_line.Goals as goal

@@ -1,7 +1,5 @@
 -- A byte that passes the test lies between the digits' ends.
-use borrow.Author.Rules.{rules}
 use native.Mathlib.Omega.{arith}
-use borrow.Author.Tests.{not-true, not-false}
 use mathlib.Core.Path.{sym, ◌∙◌}
 use Rattle.reader.proofs.Fields.{digit_value_is}
 use Rattle.reader.proofs.value.Goals as goal

@@ -1,11 +1,6 @@
 -- Between two fields the variables that were counted, and those that are left, are those of the whole.
 use borrow.Author.Rules.{rules}
-use borrow.Author.Tests.{not-true, not-false}
-use Prim.Native.Nat.{◌≤◌, ◌-◌}
-use mathlib.Core.Path.{◌≡◌, refl, sym, ◌∙◌}
-use lib.ListN.{length, drop}
-use Rattle.definitions.specs.Bytes.{split}
-use Rattle.reader.specs.Lines.{tally}
+use mathlib.Core.Path.{refl, sym, ◌∙◌}
 use Rattle.reader.proofs.Pieces.{some_piece, first_piece, last_piece}
 use Rattle.reader.proofs.Fields.{tally_full, tally_bad, tally_on, tally_end}
 use Rattle.reader.proofs.variables.Goals as goal

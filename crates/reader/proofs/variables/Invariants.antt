@@ -1,12 +1,8 @@
-use borrow.Author.Rules.{rules}
-use borrow.Author.Tests.{not-true, not-false}
 use Prim.Native.Nat.{◌≤◌, ◌-◌}
-use mathlib.Core.Path.{◌≡◌, refl, sym, ◌∙◌}
+use mathlib.Core.Path.{◌≡◌}
 use lib.ListN.{length, drop}
 use Rattle.definitions.specs.Bytes.{split}
 use Rattle.reader.specs.Lines.{tally}
-use Rattle.reader.proofs.Pieces.{some_piece, first_piece, last_piece}
-use Rattle.reader.proofs.Fields.{tally_full, tally_bad, tally_on, tally_end}
 use Rattle.reader.proofs.variables.Given as goal
 
 abbrev pub invariant-loop-n : goal.invariant-loop-n

@@ -1,19 +1,10 @@
 -- Between two fields the words that stand in the table are those of the first variables: what is left of the fields is what is left to write.
 use borrow.Author.Rules.{rules}
 use native.Mathlib.Omega.{arith}
-use Prim.Native.Nat.{◌≤◌, ◌-◌, ◌+◌}
-use mathlib.Core.Path.{◌≡◌, refl, ap}
-use mathlib.Core.Bool.{true}
-use mathlib.Core.List.{List, ◌++◌, map}
-use lib.ListN.{length, drop, take, length-set}
-use Rattle.definitions.specs.Bytes.{Bytes, split}
-use Rattle.definitions.specs.Limits.{house}
-use Rattle.definitions.specs.RuleText.{variable_name}
-use Rattle.definitions.specs.Reading.{all_names}
-use Rattle.text.specs.Words.{Token, var_token}
-use Rattle.reader.specs.Lines.{Lies, Stand}
+use mathlib.Core.Path.{refl, ap}
+use lib.ListN.{length, drop, length-set}
 use Rattle.reader.proofs.Pieces.{split_many, first_piece, last_piece}
-use Rattle.reader.proofs.Fields.{Half, half_end, field_short, next_names, variable_more}
+use Rattle.reader.proofs.Fields.{half_end, field_short, next_names, variable_more}
 use Rattle.reader.proofs.write_variables.Goals as goal
 
 pub loop-start-init : goal.loop-start-init

@@ -1,18 +1,15 @@
-use borrow.Author.Rules.{rules}
-use native.Mathlib.Omega.{arith}
 use Prim.Native.Nat.{◌≤◌, ◌-◌, ◌+◌}
-use mathlib.Core.Path.{◌≡◌, refl, ap}
+use mathlib.Core.Path.{◌≡◌}
 use mathlib.Core.Bool.{true}
 use mathlib.Core.List.{List, ◌++◌, map}
-use lib.ListN.{length, drop, take, length-set}
+use lib.ListN.{length, drop, take}
 use Rattle.definitions.specs.Bytes.{Bytes, split}
 use Rattle.definitions.specs.Limits.{house}
 use Rattle.definitions.specs.RuleText.{variable_name}
 use Rattle.definitions.specs.Reading.{all_names}
 use Rattle.text.specs.Words.{Token, var_token}
 use Rattle.reader.specs.Lines.{Lies, Stand}
-use Rattle.reader.proofs.Pieces.{split_many, first_piece, last_piece}
-use Rattle.reader.proofs.Fields.{Half, half_end, field_short, next_names, variable_more}
+use Rattle.reader.proofs.Fields.{Half}
 use Rattle.reader.proofs.write_variables.Given as goal
 
 abbrev pub invariant-loop-start : goal.invariant-loop-start

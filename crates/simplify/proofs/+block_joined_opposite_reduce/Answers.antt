@@ -1,6 +1,5 @@
 -- `simplify::reduce`, `opposite`, `joined` and `block` meet their contracts: parts first, then the node. What is left of the stretch falls
 -- with each call of `reduce`.
-use Prim.Native.Nat.{ℕ, ◌<◌, ◌+◌, ◌*◌, ◌-◌}
 use native.Mathlib.Omega.{arith}
 use mathlib.Core.Path.{refl, sym, ◌∙◌}
 use Rattle.definitions.specs.Simplify.{simplify}

@@ -1,11 +1,4 @@
-use Prim.Native.Nat.{ℕ, ◌<◌, ◌+◌, ◌*◌, ◌-◌}
-use native.Mathlib.Omega.{arith}
-use mathlib.Core.Path.{refl, sym, ◌∙◌}
-use Rattle.definitions.specs.Simplify.{simplify}
-use Rattle.text.specs.Words.{code, sides}
-use Rattle.text.specs.Shapes.{shaped, shaped_constant, shaped_binary, shaped_block, no_shape}
-use Rattle.simplify.proofs.Pasting.{small_unmade}
-use Rattle.simplify.proofs.Reducing.{safe_here, safe_past, safe_word, safe_copy, at_node, no_node, word_written, atom_copied, equation_code, two_sides, reduces_as, turned_safe, turned_reduces, joined_safe, joined_reduces, block_safe, block_reduces, block_too_long}
+use Prim.Native.Nat.{◌+◌, ◌*◌, ◌-◌}
 use Rattle.simplify.proofs.+block_joined_opposite_reduce.Given as goal
 
 abbrev pub decreases-reduce : goal.decreases-reduce

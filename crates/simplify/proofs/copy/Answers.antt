@@ -1,8 +1,7 @@
 -- `simplify::copy` meets its contract. The loop's invariant is resumption: a run that copies the terms that are left, from where the loop
 -- stands, copies all of them. The measure is what is left of the stretch.
-use Prim.Native.Nat.{◌-◌}
 use native.Mathlib.Omega.{arith}
-use Rattle.simplify.proofs.Copying.{Looping, loop_starts, loop_on, loop_stops, loop_ends}
+use Rattle.simplify.proofs.Copying.{loop_starts, loop_on, loop_stops, loop_ends}
 use Rattle.simplify.proofs.copy.Goals as goal
 
 pub loop-left-init : goal.loop-left-init

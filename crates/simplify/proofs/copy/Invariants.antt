@@ -1,6 +1,5 @@
 use Prim.Native.Nat.{◌-◌}
-use native.Mathlib.Omega.{arith}
-use Rattle.simplify.proofs.Copying.{Looping, loop_starts, loop_on, loop_stops, loop_ends}
+use Rattle.simplify.proofs.Copying.{Looping}
 use Rattle.simplify.proofs.copy.Given as goal
 
 abbrev pub invariant-loop-left : goal.invariant-loop-left

@@ -1,7 +1,6 @@
 -- `simplify::paste` meets its contract. The loop's invariant: what was written is the beginning of the list.
-use Prim.Native.Nat.{◌-◌}
 use native.Mathlib.Omega.{arith}
-use Rattle.simplify.proofs.Pasting.{Pasting, paste_starts, paste_on, pasted}
+use Rattle.simplify.proofs.Pasting.{paste_starts, paste_on, pasted}
 use Rattle.simplify.proofs.paste.Goals as goal
 
 pub loop-i-init : goal.loop-i-init

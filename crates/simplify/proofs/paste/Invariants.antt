@@ -1,6 +1,5 @@
 use Prim.Native.Nat.{◌-◌}
-use native.Mathlib.Omega.{arith}
-use Rattle.simplify.proofs.Pasting.{Pasting, paste_starts, paste_on, pasted}
+use Rattle.simplify.proofs.Pasting.{Pasting}
 use Rattle.simplify.proofs.paste.Given as goal
 
 abbrev pub invariant-loop-i : goal.invariant-loop-i

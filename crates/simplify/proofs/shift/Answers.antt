@@ -1,7 +1,6 @@
 -- `simplify::shift` meets its contract. The loop's invariant: what was moved, and what is left, is the run; what is left is as it was.
-use Prim.Native.Nat.{◌-◌}
 use native.Mathlib.Omega.{arith}
-use Rattle.simplify.proofs.Moving.{Moving, move_starts, move_on, moved}
+use Rattle.simplify.proofs.Moving.{move_starts, move_on, moved}
 use Rattle.simplify.proofs.shift.Goals as goal
 
 pub loop-next-init : goal.loop-next-init

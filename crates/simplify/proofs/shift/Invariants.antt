@@ -1,6 +1,5 @@
 use Prim.Native.Nat.{◌-◌}
-use native.Mathlib.Omega.{arith}
-use Rattle.simplify.proofs.Moving.{Moving, move_starts, move_on, moved}
+use Rattle.simplify.proofs.Moving.{Moving}
 use Rattle.simplify.proofs.shift.Given as goal
 
 abbrev pub invariant-loop-next : goal.invariant-loop-next

@@ -1,5 +1,4 @@
 -- `simplify::simplify` meets its contract.
-use borrow.Author.Rules.{rules}
 use native.Mathlib.Omega.{arith}
 use mathlib.Core.Path.{refl}
 use Rattle.simplify.proofs.Wholes.{simplified_none, simplified}

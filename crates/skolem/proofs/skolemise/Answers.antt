@@ -1,6 +1,5 @@
 -- The steps one after another, and each way out as the law of that end says. The names bind the places on the way back: fill, foralls,
 -- the test of the names, the names, the survey, the free variables, the tests of the arrays and of their counts, the start.
-use borrow.Author.Rules.{rules}
 use borrow.Author.Tests.{not-true, not-false}
 use native.Mathlib.Omega.{arith}
 use Prim.Native.Nat.{ℕ}

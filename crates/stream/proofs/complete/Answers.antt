@@ -1,5 +1,4 @@
 -- By the two tests, one after the other.
-use borrow.Author.Rules.{rules}
 use mathlib.Core.Path.{sym}
 use borrow.Author.Tests.{eq-eqb, ne_eqb}
 use Rattle.stream.proofs.complete.Goals as goal

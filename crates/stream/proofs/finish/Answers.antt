@@ -1,5 +1,4 @@
 -- It is what the machine prints last.
-use borrow.Author.Rules.{rules}
 use Rattle.stream.proofs.finish.Goals as goal
 
 pub returns : goal.returns

@@ -1,12 +1,8 @@
 -- `stream::push` meets its promise. The loop keeps that the run from where it stands is the rest of the run from the start of the piece
 -- (PushLaws); out and work are as they were until something is printed. The measure is what is left of the piece.
-use borrow.Author.Rules.{rules}
-use native.Mathlib.Omega.{arith}
-use mathlib.Core.Path.{◌≡◌, refl, ap, ◌∙◌}
-use Prim.Native.Nat.{◌-◌}
+use mathlib.Core.Path.{refl, ap, ◌∙◌}
 use lib.ListN.{length}
-use Rattle.stream.specs.Machine.{at}
-use Rattle.stream.proofs.PushLaws.{Running, running_first, running_step, running_ends, running_prints}
+use Rattle.stream.proofs.PushLaws.{running_first, running_step, running_ends, running_prints}
 use Rattle.stream.proofs.push.Goals as goal
 
 pub loop-i-init : goal.loop-i-init

@@ -1,10 +1,8 @@
-use borrow.Author.Rules.{rules}
-use native.Mathlib.Omega.{arith}
-use mathlib.Core.Path.{◌≡◌, refl, ap, ◌∙◌}
+use mathlib.Core.Path.{◌≡◌}
 use Prim.Native.Nat.{◌-◌}
 use lib.ListN.{length}
 use Rattle.stream.specs.Machine.{at}
-use Rattle.stream.proofs.PushLaws.{Running, running_first, running_step, running_ends, running_prints}
+use Rattle.stream.proofs.PushLaws.{Running}
 use Rattle.stream.proofs.push.Given as goal
 
 abbrev pub invariant-loop-i : goal.invariant-loop-i

@@ -1,18 +1,18 @@
 -- How much of a rule's text is enough: a line that is read has at most 33 bytes, its LF counted, for each unit of its weight. So the
 -- lines that pass before the weight limit have at most 33,792 bytes; the line behind them is refused for its length once it has 1,025.
 -- What lies past the first 34,817 bytes of a text cannot change how it is read.
-use Rattle.std.specs.Prelude.{◌≡◌, refl, Bool, true, false, ◌&&◌, cond, List, [], ◌∷◌, ◌++◌, ℕ, zero, suc, ◌+◌, ◌*◌, ◌-◌, ◌/◌, ◌%◌, ◌≤◌, ◌<◌, leb, ltb, eqb, length}
+use Rattle.std.specs.Prelude.{◌≡◌, refl, true, false, ◌&&◌, List, [], ◌∷◌, ◌++◌, ℕ, zero, suc, ◌+◌, ◌*◌, ◌-◌, ◌/◌, ◌%◌, ◌≤◌, ◌<◌, leb, ltb, eqb, length}
 use Rattle.std.proofs.Common.{sym, ◌∙◌, ap, append-nil, arith, leb-true, lt-ltb, length-append}
 use Rattle.std.proofs.Math.Option.{Option, none, some}
 use Rattle.std.proofs.lemmas.Bool.{lt-leb}
-use Rattle.definitions.specs.Bytes.{Bytes, TAB, LF, null, onto, split, behind_each, digits, decimal}
+use Rattle.definitions.specs.Bytes.{Bytes, TAB, LF, null, split, behind_each, digits, decimal}
 use Rattle.definitions.specs.Syntax.{and, or, imp, iff, all, ex}
-use Rattle.definitions.specs.Limits.{Limits, house}
-use Rattle.definitions.specs.RuleText.{Manner, simple_name, variable_name, symbol_name, letter, behind, is_name, Node, top_node, bot_node, not_node, eq_node, bin_node, block_node, pred_node, fun_node, var_node, con_node, keyword, line}
-use Rattle.definitions.specs.Reading.{all_names, parse, node_weight, is_term, Due, some_due, parts, agree, Step, bad, over, on, place, Scan, bad_line, before, scan, settle, read}
-use Rattle.definitions.proofs.Laws.Bools.{by_cases, clash, and_true_left, and_true_right}
+use Rattle.definitions.specs.Limits.{house}
+use Rattle.definitions.specs.RuleText.{Manner, simple_name, variable_name, symbol_name, letter, behind, is_name, Node, top_node, bot_node, not_node, eq_node, bin_node, block_node, pred_node, fun_node, var_node, con_node, line}
+use Rattle.definitions.specs.Reading.{all_names, parse, node_weight, is_term, Due, some_due, parts, agree, Step, bad, over, on, place, bad_line, before, scan, settle, read}
+use Rattle.definitions.proofs.Laws.Bools.{by_cases, and_true_left, and_true_right}
 use Rattle.definitions.proofs.Laws.Pieces.{split_some}
-use Rattle.definitions.specs.Laws.Within.{Allowed, Good}
+use Rattle.definitions.specs.Laws.Within.{Allowed}
 use Rattle.definitions.proofs.Laws.Lines.{parse_iff}
 use Rattle.definitions.proofs.Laws.Scanned.{follow, scan_follows}
 

@@ -1,28 +1,28 @@
 -- Any cutting of the input gives the same output: what is printed while pieces are fed one after another, and at the end, is what the
 -- file program prints for all their bytes.
-use Rattle.std.specs.Prelude.{◌≡◌, Bool, ◌&&◌, cond, eqb, ltb, take, drop, get_or, set}
+use Rattle.std.specs.Prelude.{◌≡◌, ◌&&◌, cond, eqb, ltb, take, drop, get_or, set}
 use Rattle.std.proofs.Math.Path.{refl}
 use Rattle.std.proofs.Common.{sym, ◌∙◌, ap, eqb-true, ltb-true, ltb-false, lt-ltb, length-append, length-set, take-suc-set}
 use Rattle.std.proofs.Math.Bool.{true, false}
 use mathlib.Core.List.{List, [], ◌∷◌, ◌++◌, append_assoc, append-nil}
-use Rattle.std.proofs.Math.Option.{Option, none, some}
-use Prim.Native.Nat.{ℕ, zero, suc, ◌+◌, ◌-◌, ◌≤◌, ◌<◌}
+use Rattle.std.proofs.Math.Option.{none, some}
+use Prim.Native.Nat.{ℕ, zero, suc, ◌≤◌, ◌<◌}
 use native.Mathlib.Omega.{arith}
 use Rattle.std.proofs.lemmas.Bool.{eqb-false}
 use Rattle.std.proofs.Math.ListN.{length}
 use Rattle.std.proofs.lemmas.List.{get_or_at}
 use Rattle.definitions.specs.Bytes.{Bytes, TAB, LF, null, same}
-use Rattle.definitions.specs.Limits.{house, published}
+use Rattle.definitions.specs.Limits.{house}
 use Rattle.definitions.specs.Convert.{Conversion, to_simplified, to_nnf, to_pnf, to_snf, to_cnf, to_dnf, pnf_to_snf, snf_to_cnf, snf_to_dnf}
-use Rattle.definitions.specs.Program.{Parts, cut, parts, do_word, done_word, conversion_word, conversions, conversion_of, field_line, refusal, rules_output, file_output, after_first, of_lines, program}
-use Rattle.definitions.proofs.Laws.Bools.{by_cases, clash, and_true_left, and_true_right}
+use Rattle.definitions.specs.Program.{cut, do_word, done_word, conversion_word, conversions, conversion_of, field_line, refusal, rules_output, file_output, after_first, of_lines, program}
+use Rattle.definitions.proofs.Laws.Bools.{by_cases, and_true_left, and_true_right}
 use Rattle.definitions.proofs.Laws.Sets.{same_eq}
 use Rattle.definitions.proofs.Laws.Pieces.{Clear, clear_append}
-use Rattle.stream.specs.Machine.{room, Machine, Print, Run, rule_tab, matches, complete, second_line, refused_file, first_line, chosen, grown, step, second_step, first_step, due_print, last_print, opened, print_bytes, conversion_found, number_of, longest_first, run}
-use Rattle.stream.specs.Feeding.{told, streams, begun, Through, behind, through, fed, joined}
-use Rattle.stream.specs.Laws.Rules.{line_of, after_line, line_at, first_rule, pending, cut_line, line_ends, line_matches, rule_begins, line_misses}
+use Rattle.stream.specs.Machine.{room, Machine, matches, complete, second_line, refused_file, first_line, chosen, grown, step, second_step, first_step, due_print, last_print, opened, print_bytes, conversion_found, number_of, longest_first, run}
+use Rattle.stream.specs.Feeding.{told, streams, begun, behind, through, fed, joined}
+use Rattle.stream.specs.Laws.Rules.{line_of, after_line, line_at, pending, cut_line, line_ends, line_matches, rule_begins, line_misses}
 use Rattle.stream.specs.Laws.Labels.{line_of_clear, after_line_clear, not_clear}
-use Rattle.stream.specs.Laws.Told.{rules, RuleStreams, rule_streams, not_last}
+use Rattle.stream.specs.Laws.Told.{rule_streams, not_last}
 
 -- a refused file stays refused
 refused_streams : (s kept : Bytes) → streams (record { state = refused_file; kept = kept }) s ≡ refusal 2 0

@@ -1,7 +1,7 @@
 -- What the kept buffer holds while a rule's text w goes by: the label, and behind it as much of w as there is room for. The room is
 -- enough: what is converted is read as the whole text is.
-use Rattle.std.specs.Prelude.{◌≡◌, refl, Bool, true, false, cond, List, [], ◌∷◌, ◌++◌, ℕ, zero, suc, ◌+◌, ◌-◌, ◌≤◌, ◌<◌, min, ltb, leb, length, take, drop, set}
-use Rattle.std.proofs.Common.{sym, ◌∙◌, ap, arith, ltb-true, ltb-false, lt-ltb, le-ltb, length-append, length-take, length-drop, length-set, take-append-drop, take_all, take-suc-set, take-take, take_at}
+use Rattle.std.specs.Prelude.{◌≡◌, [], ◌∷◌, ◌++◌, ℕ, suc, ◌+◌, ◌-◌, ◌≤◌, ◌<◌, min, ltb, length, take, drop, set}
+use Rattle.std.proofs.Common.{sym, ◌∙◌, ap, arith, ltb-true, ltb-false, length-append, length-take, length-drop, length-set, take-append-drop, take_all, take-suc-set, take-take}
 use Rattle.std.proofs.lemmas.List.{drop-set-add, take-set-le, take-append-le}
 use Rattle.std.proofs.Math.Seq.{set_out, take-length}
 use Rattle.definitions.specs.Bytes.{Bytes}

@@ -1,9 +1,9 @@
 -- Which rule lines have a good label, for a line that is read byte by byte: none without LF, none whose label is too long, and
 -- otherwise those whose label is a name.
-use Rattle.std.specs.Prelude.{◌≡◌, refl, Bool, true, false, ◌&&◌, cond, ℕ, suc, ◌+◌, ◌≤◌, ◌<◌, eqb, leb, length, drop}
-use Rattle.std.proofs.Common.{sym, ◌∙◌, ap, arith, leb-true, le-leb, length-append}
-use mathlib.Core.List.{List, [], ◌∷◌, ◌++◌, append-nil}
-use Rattle.definitions.specs.Bytes.{Bytes, TAB, LF, same, null}
+use Rattle.std.specs.Prelude.{◌≡◌, refl, true, false, ◌&&◌, ◌≤◌, ◌<◌, leb, length}
+use Rattle.std.proofs.Common.{◌∙◌, ap, arith, leb-true, le-leb, length-append}
+use mathlib.Core.List.{[], ◌∷◌, ◌++◌, append-nil}
+use Rattle.definitions.specs.Bytes.{Bytes, LF, same, null}
 use Rattle.definitions.specs.Limits.{house}
 use Rattle.definitions.specs.RuleText.{letter, simple_name, behind, is_name}
 use Rattle.definitions.specs.Program.{field_line, rule_word, without_end, label, good_label}

@@ -1,12 +1,11 @@
 -- What a program that moves the bytes needs of a push: it reads at least one byte of what is left and no more than that, what it prints
 -- lies within out, and feeding goes on where it stopped.
-use Rattle.std.specs.Prelude.{◌≡◌, refl, Bool, true, false, cond, List, [], ◌∷◌, ◌++◌, ℕ, suc, ◌+◌, ◌≤◌, ◌<◌, ltb, length, drop}
-use Rattle.std.proofs.Common.{sym, ◌∙◌, ap, arith, length-append, length-drop, drop_of_length-le, drop-drop}
+use Rattle.std.specs.Prelude.{◌≡◌, [], ◌∷◌, ℕ, ◌≤◌, ◌<◌, ltb, length, drop}
+use Rattle.std.proofs.Common.{◌∙◌, ap, arith, length-append, length-drop, drop_of_length-le, drop-drop}
 use Rattle.definitions.specs.Bytes.{Bytes}
 use Rattle.definitions.proofs.Laws.Bools.{by_cases}
-use Rattle.stream.specs.declared.machine.State.{State}
 use Rattle.stream.specs.declared.Pushed.{Pushed}
-use Rattle.stream.specs.Machine.{Machine, Print, Run, at, complete, step, run, print_bytes}
+use Rattle.stream.specs.Machine.{Machine, Print, at, complete, step, run, print_bytes}
 use Rattle.stream.specs.Feeding.{through}
 use Rattle.stream.specs.Pushing.{Prints, Pushes, print_room}
 use Rattle.stream.specs.Laws.Fed.{run_through}

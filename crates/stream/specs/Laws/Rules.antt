@@ -1,10 +1,10 @@
 -- Lines and rules over bytes that are still to come. A line's rest is skipped byte by byte; `parts (cut s)` begins with a rule where s
 -- begins with `rule` TAB, and otherwise with the rest of a line.
-use Rattle.std.specs.Prelude.{◌≡◌, refl, Bool, true, false, ◌&&◌, cond, List, [], ◌∷◌, ◌++◌, ℕ, zero, suc, ◌+◌, ◌≤◌, ◌<◌, eqb, leb, ltb, length, take, drop, get_or}
-use Rattle.std.proofs.Common.{sym, ◌∙◌, ap, append_assoc, arith, eqb-true, ne_eqb}
+use Rattle.std.specs.Prelude.{◌≡◌, refl, true, false, cond, [], ◌∷◌, ◌++◌, ℕ, zero, suc, ◌≤◌, ◌<◌, eqb, ltb, take}
+use Rattle.std.proofs.Common.{sym, ◌∙◌, ap, arith, eqb-true, ne_eqb}
 use Rattle.std.proofs.lemmas.Bool.{eqb-false}
-use Rattle.definitions.specs.Bytes.{Bytes, TAB, LF, begins, onto}
-use Rattle.definitions.specs.Program.{Rule, Parts, cut, parts}
+use Rattle.definitions.specs.Bytes.{Bytes, TAB, LF, begins}
+use Rattle.definitions.specs.Program.{Parts, cut, parts}
 use Rattle.definitions.proofs.Laws.Bools.{by_cases}
 use Rattle.definitions.proofs.Laws.Pieces.{Clear}
 use Rattle.stream.specs.Machine.{rule_tab, matches}

@@ -1,21 +1,20 @@
 -- What the machine prints from a label or from a rule's text on: the rule, and then the rules that follow, as the definition cuts them.
 -- Each state stands for what is still to be printed, and a byte keeps that.
-use Rattle.std.specs.Prelude.{◌≡◌, refl, Bool, ◌&&◌, cond, List, [], ◌∷◌, ◌++◌, ℕ, zero, suc, ◌+◌, ◌-◌, ◌≤◌, ◌<◌, eqb, ltb, length, take, drop, get_or, set}
+use Rattle.std.specs.Prelude.{◌≡◌, refl, Bool, ◌&&◌, cond, [], ◌∷◌, ◌++◌, ℕ, zero, suc, ◌-◌, ◌≤◌, ◌<◌, eqb, ltb, length, take, get_or, set}
 use Rattle.std.proofs.Common.{sym, ◌∙◌, ap, append_assoc, append-nil, arith, eqb-true, ltb-true, ltb-false, lt-ltb, length-append, take-suc-set}
 use Rattle.std.proofs.Math.Bool.{true, false}
-use Rattle.std.proofs.Math.Option.{Option, none, some}
 use Rattle.std.proofs.lemmas.Bool.{eqb-false}
 use Rattle.std.proofs.Math.ListN.{length-set}
-use Rattle.definitions.specs.Bytes.{Bytes, TAB, LF, null}
-use Rattle.definitions.specs.Limits.{house, published}
+use Rattle.definitions.specs.Bytes.{Bytes, TAB, LF}
+use Rattle.definitions.specs.Limits.{house}
 use Rattle.definitions.specs.RuleText.{simple_name, is_name}
-use Rattle.definitions.specs.Convert.{Conversion, convert}
-use Rattle.definitions.specs.Program.{Rule, Parts, cut, parts, rule_word, question, field_line, refusal, printed, good_label, label, rule_output, rules_output, file_output}
+use Rattle.definitions.specs.Convert.{convert}
+use Rattle.definitions.specs.Program.{Parts, cut, parts, rule_word, field_line, printed, good_label, label, rule_output, rules_output}
 use Rattle.definitions.proofs.Laws.Bools.{by_cases, clash, and_true_left, and_true_right}
 use Rattle.definitions.proofs.Laws.Pieces.{Clear, clear_append}
-use Rattle.stream.specs.Machine.{room, Machine, Print, rule_print, rule_tab, matches, complete, next_matched, in_text, in_label, second_line, refused_file, first_line, grown, step, text_step, label_step, second_step, due_print, last_print, opened, print_bytes, rule_bytes, name_kept, text_kept, longest_label, conversion_found}
+use Rattle.stream.specs.Machine.{room, rule_print, rule_tab, matches, next_matched, in_text, in_label, grown, step, text_step, label_step, due_print, last_print, print_bytes, rule_bytes, name_kept, text_kept, longest_label, conversion_found}
 use Rattle.stream.specs.Feeding.{told, streams}
-use Rattle.stream.specs.Laws.Rules.{line_of, after_line, plus, mid, line_at, first_rule, pending, line_ends, line_matches, rule_begins, line_misses}
+use Rattle.stream.specs.Laws.Rules.{line_of, after_line, line_at, first_rule, pending, line_ends, line_matches, rule_begins, line_misses}
 use Rattle.stream.specs.Laws.Held.{Held, held_first, held_byte, held_all, held_but}
 use Rattle.stream.specs.Laws.Labels.{line_of_clear, after_line_clear, clear_tab, unended_bad, long_bad, label_is, good_is}
 

@@ -1,6 +1,5 @@
 -- `substitution::collect`, `both` and `block` meet their contracts: the run at a node is the run below it. What is left of the stretch falls
 -- with each call of `collect`.
-use Prim.Native.Nat.{ℕ, ◌<◌, ◌+◌, ◌*◌, ◌-◌}
 use native.Mathlib.Omega.{arith}
 use mathlib.Core.Path.{sym, ◌∙◌}
 use Rattle.definitions.specs.Names.{free}

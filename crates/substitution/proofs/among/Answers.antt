@@ -1,8 +1,7 @@
 -- `substitution::among` meets its contract. The loop's invariant: whoever looks from where the loop stands finds what there is to be found.
-use Prim.Native.Nat.{◌-◌}
 use native.Mathlib.Omega.{arith}
 use mathlib.Core.Path.{refl, sym, ◌∙◌}
-use Rattle.substitution.proofs.Finding.{Finding, found, passed, missing}
+use Rattle.substitution.proofs.Finding.{found, passed, missing}
 use Rattle.substitution.proofs.among.Goals as goal
 
 pub returns-then-to-gt-WEIGHT : goal.returns-then-to-gt-WEIGHT

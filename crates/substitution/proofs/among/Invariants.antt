@@ -1,7 +1,5 @@
 use Prim.Native.Nat.{◌-◌}
-use native.Mathlib.Omega.{arith}
-use mathlib.Core.Path.{refl, sym, ◌∙◌}
-use Rattle.substitution.proofs.Finding.{Finding, found, passed, missing}
+use Rattle.substitution.proofs.Finding.{Finding}
 use Rattle.substitution.proofs.among.Given as goal
 
 abbrev pub invariant-loop-i : goal.invariant-loop-i

@@ -1,5 +1,4 @@
 -- `substitution::arguments` meets its contract.
-use borrow.Author.Rules.{rules}
 use native.Mathlib.Omega.{arith}
 use mathlib.Core.Path.{◌∙◌}
 use Rattle.text.specs.Arguments.{behind_function, behind_other}

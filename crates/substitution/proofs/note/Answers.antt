@@ -1,6 +1,4 @@
 -- `substitution::note` meets its contract.
-use borrow.Author.Rules.{rules}
-use borrow.Author.Tests.{not-true, not-false}
 use native.Mathlib.Omega.{arith}
 use Rattle.substitution.proofs.Adding.{no_variable, unasked_variable, known_variable, new_variable}
 use Rattle.substitution.proofs.note.Goals as goal

@@ -1,5 +1,4 @@
 -- `substitution::retain` meets its contract: a name that the block binds goes.
-use borrow.Author.Rules.{rules}
 use native.Mathlib.Omega.{arith}
 use mathlib.Core.Bool.{true, false}
 use Rattle.substitution.proofs.Sifting.{word_goes, word_stays, tested}

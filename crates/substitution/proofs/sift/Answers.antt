@@ -1,8 +1,7 @@
 -- `substitution::sift` meets its contract. The loop's invariant: what was kept, and what stays of the words not read yet, is what stays of
 -- all; the words not read yet are as they were. The measure is what is left of them.
-use Prim.Native.Nat.{◌-◌}
 use native.Mathlib.Omega.{arith}
-use Rattle.substitution.proofs.Sifting.{Sifting, sift_starts, sift_on, sifted, sifts_nothing}
+use Rattle.substitution.proofs.Sifting.{sift_starts, sift_on, sifted, sifts_nothing}
 use Rattle.substitution.proofs.sift.Goals as goal
 
 pub returns-then-high-gt-WEIGHT : goal.returns-then-high-gt-WEIGHT

@@ -1,6 +1,5 @@
 use Prim.Native.Nat.{◌-◌}
-use native.Mathlib.Omega.{arith}
-use Rattle.substitution.proofs.Sifting.{Sifting, sift_starts, sift_on, sifted, sifts_nothing}
+use Rattle.substitution.proofs.Sifting.{Sifting}
 use Rattle.substitution.proofs.sift.Given as goal
 
 abbrev pub invariant-loop-next : goal.invariant-loop-next

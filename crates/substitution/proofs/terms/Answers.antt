@@ -1,8 +1,7 @@
 -- `substitution::terms` meets its contract. The loop's invariant is resumption: a run that collects from the terms that are left, from where
 -- the loop stands, collects from all of them. The measure is what is left of the stretch.
-use Prim.Native.Nat.{◌-◌}
 use native.Mathlib.Omega.{arith}
-use Rattle.substitution.proofs.Collecting.{Looping, loop_starts, loop_on, loop_stops, loop_ends}
+use Rattle.substitution.proofs.Collecting.{loop_starts, loop_on, loop_stops, loop_ends}
 use Rattle.substitution.proofs.terms.Goals as goal
 
 pub loop-left-init : goal.loop-left-init

@@ -1,6 +1,5 @@
 use Prim.Native.Nat.{◌-◌}
-use native.Mathlib.Omega.{arith}
-use Rattle.substitution.proofs.Collecting.{Looping, loop_starts, loop_on, loop_stops, loop_ends}
+use Rattle.substitution.proofs.Collecting.{Looping}
 use Rattle.substitution.proofs.terms.Given as goal
 
 abbrev pub invariant-loop-left : goal.invariant-loop-left

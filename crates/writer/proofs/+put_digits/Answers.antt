@@ -1,7 +1,6 @@
 -- The digits of the tenth are written first, and the last digit behind them, as `decimal_more` says. The measure is the number.
 use native.Mathlib.Omega.{arith}
-use mathlib.Core.Path.{◌≡◌, ap, ◌∙◌}
-use Prim.Native.Nat.{ℕ, ◌+◌, ◌≤◌, ◌<◌, ◌/◌}
+use mathlib.Core.Path.{ap, ◌∙◌}
 use lib.ListN.{length}
 use Rattle.writer.specs.PutLaws.{wrote_both, puts_size}
 use Rattle.writer.specs.DigitLaws.{decimal_one, decimal_more, length_more}

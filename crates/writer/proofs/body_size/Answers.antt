@@ -1,5 +1,4 @@
 -- The lengths of the parts, which are short enough to be added.
-use borrow.Author.Rules.{rules}
 use native.Mathlib.Omega.{arith}
 use mathlib.Core.Path.{◌≡◌, ap}
 use Prim.Native.Nat.{◌/◌, ◌%◌}

@@ -1,10 +1,7 @@
 -- The loop keeps that the digits counted, but one, and those of what is left are the number's.
-use borrow.Author.Rules.{rules}
 use native.Mathlib.Omega.{arith}
-use mathlib.Core.Path.{◌≡◌, ap, sym}
-use Prim.Native.Nat.{◌+◌, ◌≤◌}
+use mathlib.Core.Path.{ap}
 use lib.ListN.{length}
-use Rattle.definitions.specs.Bytes.{decimal}
 use Rattle.writer.specs.DigitLaws.{decimal_one, length_more}
 use Rattle.writer.proofs.decimal_size.Goals as goal
 

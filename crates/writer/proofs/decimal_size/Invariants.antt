@@ -1,10 +1,7 @@
-use borrow.Author.Rules.{rules}
-use native.Mathlib.Omega.{arith}
-use mathlib.Core.Path.{◌≡◌, ap, sym}
+use mathlib.Core.Path.{◌≡◌}
 use Prim.Native.Nat.{◌+◌, ◌≤◌}
 use lib.ListN.{length}
 use Rattle.definitions.specs.Bytes.{decimal}
-use Rattle.writer.specs.DigitLaws.{decimal_one, length_more}
 use Rattle.writer.proofs.decimal_size.Given as goal
 
 abbrev pub invariant-loop-left : goal.invariant-loop-left

@@ -1,5 +1,4 @@
 -- What is due behind a word, by the same tests as `after` makes on its token.
-use borrow.Author.Rules.{rules}
 use native.Mathlib.Omega.{arith}
 use mathlib.Core.Path.{◌≡◌, sym}
 use Rattle.writer.proofs.Tokens.{after_due, after_plain, after_block, after_symbol}

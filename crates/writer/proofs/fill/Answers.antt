@@ -1,14 +1,8 @@
 -- The loop keeps that what is written and the text of the nodes that are left are the whole text.
-use borrow.Author.Rules.{rules}
 use native.Mathlib.Omega.{arith}
-use mathlib.Core.Path.{◌≡◌, refl, ◌∙◌}
-use Prim.Native.Nat.{◌-◌, ◌≤◌}
-use lib.ListN.{length}
-use lib.Seq.{slice}
-use Rattle.text.specs.Words.{tokens}
-use Rattle.writer.specs.Writer.{text_from, text_of}
+use mathlib.Core.Path.{refl, ◌∙◌}
 use Rattle.writer.specs.PutLaws.{puts_size}
-use Rattle.writer.proofs.Runs.{Filling, body_room, filling_start, filling_on, filling_end}
+use Rattle.writer.proofs.Runs.{body_room, filling_start, filling_on, filling_end}
 use Rattle.writer.proofs.fill.Goals as goal
 
 pub loop-i-init : goal.loop-i-init
@@ -21,13 +15,12 @@ put_body-next-requires c =
     body_room c.args.text.now c.args.made.now c.args.nodes.now c.loop-i.i c.lesser-end.result c.loop-i.left (omega arith) (omega arith) c.loop-i.invariant.2 c.requires
 
 pub loop-i-preserved : goal.loop-i-preserved
-loop-i-preserved c =
-    (
-      omega arith,
-      puts_size c.put_end-next.ensures ∙ c.put_body-next.ensures.size ∙ c.loop-i.invariant.1,
-      filling_on c.args.text.now c.args.made.now c.args.nodes.now c.loop-i.i c.lesser-end.result c.loop-i.left (omega arith) (omega arith)
-          c.due-left.result (c.due-left.ensures c.args.text.now c.args.made.now) c.requires c.put_body-next.ensures c.put_end-next.ensures c.loop-i.invariant.2,
-    )
+loop-i-preserved c = (
+  omega arith,
+  puts_size c.put_end-next.ensures ∙ c.put_body-next.ensures.size ∙ c.loop-i.invariant.1,
+  filling_on c.args.text.now c.args.made.now c.args.nodes.now c.loop-i.i c.lesser-end.result c.loop-i.left (omega arith) (omega arith)
+      c.due-left.result (c.due-left.ensures c.args.text.now c.args.made.now) c.requires c.put_body-next.ensures c.put_end-next.ensures c.loop-i.invariant.2,
+)
 
 pub shape_of-out : goal.shape_of-out
 shape_of-out c = c.loop-i.invariant.1

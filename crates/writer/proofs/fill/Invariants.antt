@@ -1,13 +1,10 @@
-use borrow.Author.Rules.{rules}
-use native.Mathlib.Omega.{arith}
-use mathlib.Core.Path.{◌≡◌, refl, ◌∙◌}
+use mathlib.Core.Path.{◌≡◌}
 use Prim.Native.Nat.{◌-◌, ◌≤◌}
 use lib.ListN.{length}
 use lib.Seq.{slice}
 use Rattle.text.specs.Words.{tokens}
 use Rattle.writer.specs.Writer.{text_from, text_of}
-use Rattle.writer.specs.PutLaws.{puts_size}
-use Rattle.writer.proofs.Runs.{Filling, body_room, filling_start, filling_on, filling_end}
+use Rattle.writer.proofs.Runs.{Filling}
 use Rattle.writer.proofs.fill.Given as goal
 
 abbrev pub invariant-loop-i : goal.invariant-loop-i

@@ -1,6 +1,5 @@
 -- The table of sizes is the table of keywords, each turned to its length.
-use borrow.Author.Rules.{rules}
-use mathlib.Core.Path.{sym, ap, ◌∙◌}
+use mathlib.Core.Path.{sym, ap}
 use mathlib.Core.List.{[]}
 use lib.ListN.{length, get_or-map, get_or-eq_default}
 use Rattle.writer.specs.Writer.{keyword_of, keywords}

@@ -1,12 +1,10 @@
 -- The loop keeps that the size so far and the length of what is left are the whole length, and that the size is within the room.
-use borrow.Author.Rules.{rules}
 use native.Mathlib.Omega.{arith}
-use mathlib.Core.Path.{◌≡◌, ap}
-use Prim.Native.Nat.{◌+◌, ◌-◌, ◌≤◌, min}
+use mathlib.Core.Path.{ap}
 use lib.ListN.{length}
 use lib.Seq.{slice}
 use Rattle.text.specs.Words.{tokens}
-use Rattle.writer.specs.Writer.{text_from, text_of}
+use Rattle.writer.specs.Writer.{text_of}
 use Rattle.writer.specs.MeasureLaws.{too_long, short_enough}
 use Rattle.writer.proofs.Runs.{past, measured_start, node_length}
 use Rattle.writer.proofs.measure.Goals as goal

@@ -1,13 +1,9 @@
-use borrow.Author.Rules.{rules}
-use native.Mathlib.Omega.{arith}
-use mathlib.Core.Path.{◌≡◌, ap}
-use Prim.Native.Nat.{◌+◌, ◌-◌, ◌≤◌, min}
+use mathlib.Core.Path.{◌≡◌}
+use Prim.Native.Nat.{◌+◌, ◌-◌, ◌≤◌}
 use lib.ListN.{length}
 use lib.Seq.{slice}
 use Rattle.text.specs.Words.{tokens}
 use Rattle.writer.specs.Writer.{text_from, text_of}
-use Rattle.writer.specs.MeasureLaws.{too_long, short_enough}
-use Rattle.writer.proofs.Runs.{past, measured_start, node_length}
 use Rattle.writer.proofs.measure.Given as goal
 
 abbrev pub invariant-loop-i : goal.invariant-loop-i

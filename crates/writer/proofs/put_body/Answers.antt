@@ -1,5 +1,4 @@
 -- The parts one behind another, in the order in which `body` has them: the keyword, then the name, then the count.
-use borrow.Author.Rules.{rules}
 use native.Mathlib.Omega.{arith}
 use mathlib.Core.Path.{◌≡◌, ap, ◌∙◌}
 use mathlib.Core.List.{◌∷◌}
@@ -16,20 +15,26 @@ module _ {o o₁ : Bytes} {at n : ℕ} (T M : Bytes) (w left : ℕ) (starts : le
     (key : Puts o at (keyword_of (kind_of_word w)) o₁ n) where
   none_left : left ≡ 0
   none_left = omega arith
+
   plain : kind_of_word w ≤ 9 → Wrote o at (body left (token T M w)) o₁ n
   plain h =
       let b = body_plain T M w h in
       rw (none_left, b) (key.room (omega (arith, ap length b, rw none_left at room)))
+
   module _ (symbol : 9 < kind_of_word w) where
     key_wrote : Wrote o at (keyword_of (kind_of_word w)) o₁ n
     key_wrote = key.room (omega (arith, length_symbol T M w symbol, rw none_left at room))
+
     name_room : n + length (TAB ∷ spell T M w) ≤ length o₁
     name_room = omega (arith, key_wrote.ends, key_wrote.size, length_symbol T M w symbol, rw none_left at room)
+
     module _ {o₂ : Bytes} {m : ℕ} (name : Wrote o₁ n (TAB ∷ spell T M w) o₂ m) where
       named : 11 < kind_of_word w → Wrote o at (body left (token T M w)) o₂ m
       named h = rw (none_left, body_named T M w h) (wrote_both key_wrote name)
+
       count_room : kind_of_word w ≤ 11 → m + length (TAB ∷ decimal (count_of w)) ≤ length o₂
       count_room h = omega (arith, key_wrote.ends, key_wrote.size, name.ends, name.size, length_counted T M w symbol h, rw none_left at room)
+
       counted : {o₃ : Bytes} {k : ℕ} → kind_of_word w ≤ 11 → Wrote o₂ m (TAB ∷ decimal (count_of w)) o₃ k → Wrote o at (body left (token T M w)) o₃ k
       counted h count = rw (none_left, body_counted T M w symbol h) (wrote_both key_wrote (wrote_both name count))
 

@@ -1,5 +1,4 @@
 -- One store, where there is room for it.
-use borrow.Author.Rules.{rules}
 use native.Mathlib.Omega.{arith}
 use Rattle.writer.specs.PutLaws.{wrote_byte, puts, puts_none}
 use Rattle.writer.proofs.put_byte.Goals as goal

@@ -1,5 +1,4 @@
 -- Each keyword by its kind, which the tests have found.
-use borrow.Author.Rules.{rules}
 use native.Mathlib.Omega.{arith}
 use Rattle.writer.specs.PutLaws.{puts_size}
 use Rattle.writer.proofs.Tokens.{keyed}

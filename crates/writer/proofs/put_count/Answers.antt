@@ -1,5 +1,4 @@
 -- A tab and then the number.
-use borrow.Author.Rules.{rules}
 use native.Mathlib.Omega.{arith}
 use mathlib.Core.Path.{◌∙◌}
 use Rattle.writer.specs.PutLaws.{wrote_both, puts_size}

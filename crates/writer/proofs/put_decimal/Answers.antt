@@ -1,5 +1,4 @@
 -- The number's size is known before its first digit is written.
-use borrow.Author.Rules.{rules}
 use native.Mathlib.Omega.{arith}
 use Rattle.writer.specs.PutLaws.{puts, puts_none}
 use Rattle.writer.proofs.put_decimal.Goals as goal

@@ -1,7 +1,6 @@
 -- A line feed, or nothing.
-use borrow.Author.Rules.{rules}
 use native.Mathlib.Omega.{arith}
-use Rattle.writer.specs.PutLaws.{wrote_none, puts, puts_nothing, puts_size}
+use Rattle.writer.specs.PutLaws.{puts_nothing, puts_size}
 use Rattle.writer.proofs.Tokens.{end_none, end_line}
 use Rattle.writer.proofs.put_end.Goals as goal
 

@@ -1,5 +1,4 @@
 -- Each keyword by its kind, which the tests have found; from 14 on there is none.
-use borrow.Author.Rules.{rules}
 use native.Mathlib.Omega.{arith}
 use Rattle.writer.specs.PutLaws.{puts_nothing, puts_size}
 use Rattle.writer.proofs.Tokens.{keyed, keyword_none}

@@ -1,5 +1,4 @@
 -- The text is measured, and filled in where there is room for it.
-use borrow.Author.Rules.{rules}
 use native.Mathlib.Omega.{arith}
 use Rattle.writer.specs.PutLaws.{puts, puts_none}
 use Rattle.writer.specs.MeasureLaws.{was_short, was_long}

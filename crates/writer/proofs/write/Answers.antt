@@ -1,5 +1,4 @@
 -- The text is measured, and filled in where there is room for it.
-use borrow.Author.Rules.{rules}
 use native.Mathlib.Omega.{arith}
 use Rattle.writer.specs.MeasureLaws.{was_short, not_written, all_written}
 use Rattle.writer.proofs.write.Goals as goal

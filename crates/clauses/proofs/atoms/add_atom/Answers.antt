@@ -1,5 +1,4 @@
 -- The atom is in the table already, or those from its place on are carried up by one.
-use borrow.Author.Rules.{rules}
 use native.Mathlib.Omega.{arith}
 use mathlib.Core.Path.{◌∙◌}
 use Rattle.clauses.specs.Ranks.{cmp_parts}
@@ -27,4 +26,4 @@ returns-clause-does c =
     let s = c.shift in let f = c.find-place in
     let a = c.args in
     let cmp = cmp_parts a.text.now a.made.now a.nodes.now in λ h. put_in cmp a.part a.atoms.now a.n f.result.at f.result.found (f.ensures.does h)
-          c.if-place.false f.ensures.safe (omega arith) _ s.ensures.1
+    c.if-place.false f.ensures.safe (omega arith) _ s.ensures.1

@@ -1,4 +1,4 @@
-use borrow.Author.Tests.{eq-eqb, ne_eqb}
+use borrow.Author.Tests.{ne_eqb}
 use Rattle.clauses.proofs.atoms.class.Goals as goal
 
 pub returns-then-kind-eq-PRED : goal.returns-then-kind-eq-PRED

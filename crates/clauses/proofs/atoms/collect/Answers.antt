@@ -1,16 +1,7 @@
 -- The invariant: the table has the atoms of the words from `at` on, where each is an atom's spelling, and the terms that lead there end at `end`.
-use borrow.Author.Rules.{rules}
 use native.Mathlib.Omega.{arith}
-use Prim.Native.Nat.{◌+◌, ◌-◌, ◌≤◌}
+use Prim.Native.Nat.{◌-◌}
 use mathlib.Core.Path.{◌≡◌, ◌∙◌}
-use mathlib.Core.List.{List, map}
-use lib.ListN.{length, take}
-use Rattle.definitions.specs.Order.{Atom, set_of}
-use Rattle.text.specs.Words.{kind_of_word}
-use Rattle.clauses.specs.Each.{Each}
-use Rattle.clauses.specs.Ranks.{cmp_parts, lead, spots}
-use Rattle.clauses.specs.Sets.{Spelled}
-use Rattle.clauses.proofs.Carry.{mid}
 use Rattle.clauses.proofs.Collecting.{none_leads, none_found, leads_more, lead_fits, found_more}
 use Rattle.clauses.proofs.atoms.collect.Goals as goal
 

@@ -1,7 +1,5 @@
-use borrow.Author.Rules.{rules}
-use native.Mathlib.Omega.{arith}
-use Prim.Native.Nat.{◌+◌, ◌-◌, ◌≤◌}
-use mathlib.Core.Path.{◌≡◌, ◌∙◌}
+use Prim.Native.Nat.{◌+◌, ◌≤◌}
+use mathlib.Core.Path.{◌≡◌}
 use mathlib.Core.List.{List, map}
 use lib.ListN.{length, take}
 use Rattle.definitions.specs.Order.{Atom, set_of}
@@ -10,7 +8,6 @@ use Rattle.clauses.specs.Each.{Each}
 use Rattle.clauses.specs.Ranks.{cmp_parts, lead, spots}
 use Rattle.clauses.specs.Sets.{Spelled}
 use Rattle.clauses.proofs.Carry.{mid}
-use Rattle.clauses.proofs.Collecting.{none_leads, none_found, leads_more, lead_fits, found_more}
 use Rattle.clauses.proofs.atoms.collect.Given as goal
 
 abbrev pub invariant-loop-at : goal.invariant-loop-at

@@ -1,10 +1,7 @@
 -- The invariant: where the table falls, what stands before `low` comes before the sought atom, and what stands from `high` on comes after it.
 use native.Mathlib.Omega.{arith}
-use Prim.Native.Nat.{◌-◌, ◌≤◌}
-use lib.ListN.{take}
-use Rattle.clauses.specs.Search.{Falls, at_place}
 use Rattle.clauses.proofs.Comparing.{answer_lt, answer_eq, answer_gt}
-use Rattle.clauses.proofs.Searching.{Between, between_all, between_none, between_above, between_below, between_same}
+use Rattle.clauses.proofs.Searching.{between_all, between_none, between_above, between_below, between_same}
 use Rattle.clauses.proofs.atoms.find.Goals as goal
 
 pub loop-low-init : goal.loop-low-init
@@ -13,7 +10,7 @@ loop-low-init c = let a = c.args in (omega arith, omega arith, λ f. between_all
 pub returns-then-o-eq1-clause-does : goal.returns-then-o-eq1-clause-does
 returns-then-o-eq1-clause-does c =
     let l = c.loop-low in let a = c.args in λ f. between_same _ a.atoms.now a.n (omega arith) f l.low l.high _ (l.invariant.2 f) (omega arith)
-          (answer_eq _ _ c.order-o.ensures c.if-o-eq1.true)
+    (answer_eq _ _ c.order-o.ensures c.if-o-eq1.true)
 
 pub loop-low-preserved-then-o-lt1 : goal.loop-low-preserved-then-o-lt1
 loop-low-preserved-then-o-lt1 c =

@@ -1,9 +1,7 @@
-use native.Mathlib.Omega.{arith}
 use Prim.Native.Nat.{◌-◌, ◌≤◌}
 use lib.ListN.{take}
 use Rattle.clauses.specs.Search.{Falls, at_place}
-use Rattle.clauses.proofs.Comparing.{answer_lt, answer_eq, answer_gt}
-use Rattle.clauses.proofs.Searching.{Between, between_all, between_none, between_above, between_below, between_same}
+use Rattle.clauses.proofs.Searching.{Between}
 use Rattle.clauses.proofs.atoms.find.Given as goal
 
 abbrev pub invariant-loop-low : goal.invariant-loop-low

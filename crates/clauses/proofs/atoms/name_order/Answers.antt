@@ -1,5 +1,4 @@
-use borrow.Author.Rules.{rules}
-use mathlib.Core.Path.{◌≡◌, sym, ap, ap₂, ◌∙◌}
+use mathlib.Core.Path.{sym, ap, ap₂, ◌∙◌}
 use Rattle.definitions.specs.Order.{cmp_name}
 use Rattle.text.specs.Names.{ordering}
 use Rattle.clauses.proofs.atoms.name_order.Goals as goal

@@ -1,12 +1,10 @@
 -- The invariant: the comparison of the two atoms is that of what stands from i and j on, where `left` terms are due and `same` is the
 -- answer if they all are the same.
-use borrow.Author.Rules.{rules}
 use native.Mathlib.Omega.{arith}
-use Prim.Native.Nat.{◌+◌, ◌*◌, ◌-◌, ◌≤◌}
 use mathlib.Core.Path.{◌≡◌, refl, sym, ◌∙◌}
 use lib.ListN.{drop}
 use Rattle.text.specs.Words.{tokens}
-use Rattle.clauses.specs.Ranks.{cmp_places, cmp_tokens, ordering_of}
+use Rattle.clauses.specs.Ranks.{ordering_of}
 use Rattle.clauses.proofs.Tokens.{none_due, first_ends, second_ends, decided, goes_on}
 use Rattle.clauses.proofs.atoms.order.Goals as goal
 

@@ -1,11 +1,8 @@
-use borrow.Author.Rules.{rules}
-use native.Mathlib.Omega.{arith}
 use Prim.Native.Nat.{◌+◌, ◌*◌, ◌-◌, ◌≤◌}
-use mathlib.Core.Path.{◌≡◌, refl, sym, ◌∙◌}
+use mathlib.Core.Path.{◌≡◌}
 use lib.ListN.{drop}
 use Rattle.text.specs.Words.{tokens}
 use Rattle.clauses.specs.Ranks.{cmp_places, cmp_tokens, ordering_of}
-use Rattle.clauses.proofs.Tokens.{none_due, first_ends, second_ends, decided, goes_on}
 use Rattle.clauses.proofs.atoms.order.Given as goal
 
 abbrev pub invariant-loop-left : goal.invariant-loop-left

@@ -1,4 +1,3 @@
-use borrow.Author.Rules.{rules}
 use native.Mathlib.Omega.{arith}
 use Rattle.clauses.specs.Search.{at_place}
 use Rattle.clauses.proofs.Searching.{seek_found, seek_none}

@@ -1,6 +1,5 @@
-use borrow.Author.Rules.{rules}
 use native.Mathlib.Omega.{arith}
-use mathlib.Core.Path.{◌≡◌, sym, ◌∙◌}
+use mathlib.Core.Path.{◌∙◌}
 use Rattle.clauses.proofs.Tokens.{class_before, class_after, class_same}
 use Rattle.clauses.proofs.atoms.word_order.Goals as goal
 

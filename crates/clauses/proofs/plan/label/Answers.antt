@@ -1,12 +1,7 @@
 -- The invariant: the words from i on have ranks, where their atoms can be found, and those before i are as they were.
-use borrow.Author.Rules.{rules}
 use native.Mathlib.Omega.{arith}
-use Prim.Native.Nat.{◌≤◌}
 use mathlib.Core.Path.{◌≡◌, ◌∙◌}
-use lib.ListN.{take}
-use Rattle.clauses.specs.Ranks.{rank, relabelled}
-use Rattle.clauses.specs.Search.{Findable}
-use Rattle.clauses.proofs.Collecting.{Mapped, mapped_none, mapped_more}
+use Rattle.clauses.proofs.Collecting.{mapped_none, mapped_more}
 use Rattle.clauses.proofs.plan.label.Goals as goal
 
 pub loop-i-init : goal.loop-i-init

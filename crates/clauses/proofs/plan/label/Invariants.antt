@@ -1,11 +1,8 @@
-use borrow.Author.Rules.{rules}
-use native.Mathlib.Omega.{arith}
 use Prim.Native.Nat.{◌≤◌}
-use mathlib.Core.Path.{◌≡◌, ◌∙◌}
 use lib.ListN.{take}
 use Rattle.clauses.specs.Ranks.{rank, relabelled}
 use Rattle.clauses.specs.Search.{Findable}
-use Rattle.clauses.proofs.Collecting.{Mapped, mapped_none, mapped_more}
+use Rattle.clauses.proofs.Collecting.{Mapped}
 use Rattle.clauses.proofs.plan.label.Given as goal
 
 abbrev pub invariant-loop-i : goal.invariant-loop-i

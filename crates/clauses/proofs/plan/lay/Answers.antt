@@ -1,12 +1,11 @@
 -- Each kind of word has its own way to be laid out; what is read of the plan stands behind p.
-use borrow.Author.Rules.{rules}
 use native.Mathlib.Omega.{arith}
 use native.Mathlib.Numerals.{add-one}
 use Prim.Native.Nat.{ℕ}
 use mathlib.Core.Path.{sym, ap, ◌∙◌}
-use mathlib.Core.List.{List, ◌∷◌}
+use mathlib.Core.List.{◌∷◌}
 use lib.ListN.{drop, set}
-use Rattle.clauses.specs.Laying.{marked, leaf_word}
+use Rattle.clauses.specs.Laying.{marked}
 use Rattle.clauses.proofs.Laying.{before_constant, before_not, before_atom, before_other, laid_as, two_laid}
 use Rattle.clauses.proofs.plan.lay.Goals as goal
 

@@ -1,13 +1,7 @@
 -- The invariant: what is laid out from p on is the plan of the words from `at` on.
-use borrow.Author.Rules.{rules}
 use native.Mathlib.Omega.{arith}
-use Prim.Native.Nat.{◌+◌, ◌≤◌}
-use mathlib.Core.Path.{◌≡◌, refl, ap, ◌∙◌}
-use mathlib.Core.List.{map}
-use lib.ListN.{length, drop}
-use Rattle.text.specs.Words.{kind_of_word}
-use Rattle.clauses.specs.Laying.{marked, laid}
-use Rattle.clauses.proofs.Carry.{mid}
+use mathlib.Core.Path.{◌≡◌, ◌∙◌}
+use Rattle.clauses.specs.Laying.{marked}
 use Rattle.clauses.proofs.Laying.{laid_none, laid_more}
 use Rattle.clauses.proofs.plan.lay_out.Goals as goal
 

@@ -1,13 +1,10 @@
-use borrow.Author.Rules.{rules}
-use native.Mathlib.Omega.{arith}
-use Prim.Native.Nat.{◌+◌, ◌≤◌}
-use mathlib.Core.Path.{◌≡◌, refl, ap, ◌∙◌}
+use Prim.Native.Nat.{◌≤◌}
+use mathlib.Core.Path.{◌≡◌}
 use mathlib.Core.List.{map}
 use lib.ListN.{length, drop}
 use Rattle.text.specs.Words.{kind_of_word}
 use Rattle.clauses.specs.Laying.{marked, laid}
 use Rattle.clauses.proofs.Carry.{mid}
-use Rattle.clauses.proofs.Laying.{laid_none, laid_more}
 use Rattle.clauses.proofs.plan.lay_out.Given as goal
 
 abbrev pub invariant-loop-at : goal.invariant-loop-at

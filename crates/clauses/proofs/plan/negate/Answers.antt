@@ -1,4 +1,3 @@
-use borrow.Author.Rules.{rules}
 use native.Mathlib.Omega.{arith}
 use Rattle.clauses.proofs.Laying.{put_first, put_nowhere}
 use Rattle.clauses.proofs.plan.negate.Goals as goal

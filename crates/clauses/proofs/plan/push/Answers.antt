@@ -1,4 +1,3 @@
-use borrow.Author.Rules.{rules}
 use Rattle.clauses.proofs.Laying.{pushed}
 use Rattle.clauses.proofs.plan.push.Goals as goal
 

@@ -1,14 +1,12 @@
 -- The invariant: what stands before i comes before the new clause.
-use borrow.Author.Rules.{rules}
 use native.Mathlib.Omega.{arith}
-use Prim.Native.Nat.{ℕ, ◌-◌, ◌≤◌}
-use mathlib.Core.Path.{◌≡◌, refl, ap, ◌∙◌}
+use Prim.Native.Nat.{ℕ}
+use mathlib.Core.Path.{refl, ap, ◌∙◌}
 use mathlib.Core.List.{List}
-use lib.ListN.{length}
 use Rattle.definitions.specs.Order.{insert}
 use Rattle.clauses.specs.Ranks.{part}
 use Rattle.clauses.specs.Sets.{entries, cmp_numbers}
-use Rattle.clauses.proofs.Carry.{Sought, sought_first, sought_past, sought_same, sought_here, sought_end}
+use Rattle.clauses.proofs.Carry.{sought_first, sought_past, sought_same, sought_here, sought_end}
 use Rattle.clauses.proofs.Growing.{within_put}
 use Rattle.clauses.proofs.Comparing.{answer_lt, answer_eq, answer_gt}
 use Rattle.clauses.proofs.sets.add_clause.Goals as goal
@@ -25,7 +23,7 @@ returns-then-o-eq1-clause-within c = let l = c.loop-i in let a = c.args in let D
 pub returns-then-o-eq1-clause-does : goal.returns-then-o-eq1-clause-does
 returns-then-o-eq1-clause-does c =
     let l = c.loop-i in let a = c.args in let D = a.store.now in sought_same cmp_numbers (part D) (part D a.word) l.index a.n (omega arith) l.i (omega arith) l.invariant.3 (answer_eq _ _ c.order-o.ensures c.if-o-eq1.true)
-            ∙ ap (λ (o : List ℕ). insert cmp_numbers (part D a.word) (entries D o a.n)) l.invariant.2
+    ∙ ap (λ (o : List ℕ). insert cmp_numbers (part D a.word) (entries D o a.n)) l.invariant.2
 
 pub returns-then-o-lt1-clause-safe : goal.returns-then-o-lt1-clause-safe
 returns-then-o-lt1-clause-safe c =
@@ -41,8 +39,8 @@ pub returns-then-o-lt1-clause-does : goal.returns-then-o-lt1-clause-does
 returns-then-o-lt1-clause-does c =
     let l = c.loop-i in let a = c.args in let D = a.store.now in
     let s = c.shift.ensures in sought_here cmp_numbers (part D) (part D a.word) l.index a.n (omega arith) l.i (omega arith) l.invariant.3 c.shift.new.out a.word refl
-            (answer_lt _ _ c.order-o.ensures c.if-o-lt1.true) s.1
-            ∙ ap (λ (o : List ℕ). insert cmp_numbers (part D a.word) (entries D o a.n)) l.invariant.2
+    (answer_lt _ _ c.order-o.ensures c.if-o-lt1.true) s.1
+    ∙ ap (λ (o : List ℕ). insert cmp_numbers (part D a.word) (entries D o a.n)) l.invariant.2
 
 pub loop-i-preserved : goal.loop-i-preserved
 loop-i-preserved c =
@@ -60,4 +58,4 @@ returns-clause-within c =
 pub returns-clause-does : goal.returns-clause-does
 returns-clause-does c =
     let l = c.loop-i in let a = c.args in let D = a.store.now in let s = c.shift-2.ensures in sought_end cmp_numbers (part D) (part D a.word) l.index a.n (omega arith) l.i (omega arith) l.invariant.3 c.shift-2.new.out a.word refl s.1
-            ∙ ap (λ (o : List ℕ). insert cmp_numbers (part D a.word) (entries D o a.n)) l.invariant.2
+    ∙ ap (λ (o : List ℕ). insert cmp_numbers (part D a.word) (entries D o a.n)) l.invariant.2

@@ -1,5 +1,4 @@
 -- The literal is in the clause already, or those from its place on are carried up by one.
-use borrow.Author.Rules.{rules}
 use native.Mathlib.Omega.{arith}
 use Prim.Native.Nat.{compare}
 use mathlib.Core.Path.{◌∙◌}
@@ -18,7 +17,7 @@ returns-then-place-clause-safe c = let f = c.find-place in let a = c.args in (c.
 pub returns-then-place-clause-does : goal.returns-then-place-clause-does
 returns-then-place-clause-does c =
     let f = c.find-place in let a = c.args in λ h k. put_nowhere compare a.x a.clause.now a.n f.result.at f.result.found (f.ensures.does k)
-          c.if-place.true
+    c.if-place.true
 
 pub returns-clause-safe : goal.returns-clause-safe
 returns-clause-safe c =
@@ -29,4 +28,4 @@ pub returns-clause-does : goal.returns-clause-does
 returns-clause-does c =
     let s = c.shift in let f = c.find-place in
     let a = c.args in λ h k. put_in compare a.x a.clause.now a.n f.result.at f.result.found (f.ensures.does k)
-          c.if-place.false f.ensures.safe (omega arith) _ s.ensures.1
+    c.if-place.false f.ensures.safe (omega arith) _ s.ensures.1

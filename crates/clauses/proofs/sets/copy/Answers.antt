@@ -1,10 +1,7 @@
 -- The invariant: the first i numbers are copied.
-use borrow.Author.Rules.{rules}
 use native.Mathlib.Omega.{arith}
-use Prim.Native.Nat.{◌+◌, ◌-◌, ◌≤◌}
 use mathlib.Core.Path.{◌≡◌}
-use mathlib.Core.List.{◌++◌}
-use lib.ListN.{length, take, length-set}
+use lib.ListN.{length-set}
 use Rattle.clauses.proofs.Growing.{copied_first, copied_more}
 use Rattle.clauses.proofs.sets.copy.Goals as goal
 

@@ -1,10 +1,7 @@
-use borrow.Author.Rules.{rules}
-use native.Mathlib.Omega.{arith}
 use Prim.Native.Nat.{◌+◌, ◌-◌, ◌≤◌}
 use mathlib.Core.Path.{◌≡◌}
 use mathlib.Core.List.{◌++◌}
-use lib.ListN.{length, take, length-set}
-use Rattle.clauses.proofs.Growing.{copied_first, copied_more}
+use lib.ListN.{length, take}
 use Rattle.clauses.proofs.sets.copy.Given as goal
 
 abbrev pub invariant-loop-i : goal.invariant-loop-i

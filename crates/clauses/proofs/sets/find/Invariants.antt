@@ -1,9 +1,7 @@
-use native.Mathlib.Omega.{arith}
 use Prim.Native.Nat.{◌-◌, ◌≤◌, compare}
 use lib.ListN.{take}
 use Rattle.clauses.specs.Search.{Falls}
-use Rattle.clauses.proofs.Numbers.{compare_lt, compare_gt, compare_same}
-use Rattle.clauses.proofs.Searching.{Between, between_all, between_none, between_above, between_below, between_same}
+use Rattle.clauses.proofs.Searching.{Between}
 use Rattle.clauses.proofs.sets.find.Given as goal
 
 abbrev pub invariant-loop-low : goal.invariant-loop-low

@@ -1,13 +1,8 @@
 -- The invariant: the table has the clauses from k on.
-use borrow.Author.Rules.{rules}
 use native.Mathlib.Omega.{arith}
-use Prim.Native.Nat.{ℕ, ◌+◌, ◌≤◌}
 use mathlib.Core.Path.{◌≡◌}
-use mathlib.Core.List.{List, ◌++◌}
-use lib.ListN.{length, drop}
-use Rattle.clauses.specs.Plans.{Plan, made, words}
-use Rattle.clauses.specs.Steps.{total, Room}
-use Rattle.clauses.proofs.Growing.{Gathered, gathered_none, gathered_more, short_enough}
+use Rattle.clauses.specs.Plans.{made}
+use Rattle.clauses.proofs.Growing.{gathered_none, gathered_more, short_enough}
 use Rattle.clauses.proofs.sets.gather.Goals as goal
 
 pub loop-k-init : goal.loop-k-init

@@ -1,12 +1,10 @@
-use borrow.Author.Rules.{rules}
-use native.Mathlib.Omega.{arith}
 use Prim.Native.Nat.{ℕ, ◌+◌, ◌≤◌}
 use mathlib.Core.Path.{◌≡◌}
 use mathlib.Core.List.{List, ◌++◌}
 use lib.ListN.{length, drop}
 use Rattle.clauses.specs.Plans.{Plan, made, words}
 use Rattle.clauses.specs.Steps.{total, Room}
-use Rattle.clauses.proofs.Growing.{Gathered, gathered_none, gathered_more, short_enough}
+use Rattle.clauses.proofs.Growing.{Gathered}
 use Rattle.clauses.proofs.sets.gather.Given as goal
 
 abbrev pub invariant-loop-k : goal.invariant-loop-k

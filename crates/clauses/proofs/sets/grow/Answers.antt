@@ -1,7 +1,5 @@
 -- The sorted clause is a new part of the store, and goes into the table by that part.
-use borrow.Author.Rules.{rules}
 use native.Mathlib.Omega.{arith}
-use mathlib.Core.Path.{◌∙◌}
 use Rattle.clauses.proofs.Growing.{got, got_length, grown}
 use Rattle.clauses.proofs.sets.grow.Goals as goal
 
@@ -22,7 +20,7 @@ pub returns-clause-does : goal.returns-clause-does
 returns-clause-does c =
     let a = c.args in
     let w = c.walk-size.ensures in let e = c.copy.ensures in let t = c.add_clause-count.ensures in λ p rest x i l. record {
-        grows = λ short room v.
-            grown a.store.now _ _ a.had.used _ (omega (arith, e.0)) (omega (arith, c.requires)) e.1 a.index.now _ _ _ _ c.requires.3
-            (got a.clause.now _ _ _ w.safe.0 w.safe.1 short (w.does p rest x i l)) (got_length a.clause.now _ _ _ w.safe.0 w.safe.1 short (w.does p rest x i l)) t.within t.does v;
-      }
+      grows = λ short room v.
+          grown a.store.now _ _ a.had.used _ (omega (arith, e.0)) (omega (arith, c.requires)) e.1 a.index.now _ _ _ _ c.requires.3
+          (got a.clause.now _ _ _ w.safe.0 w.safe.1 short (w.does p rest x i l)) (got_length a.clause.now _ _ _ w.safe.0 w.safe.1 short (w.does p rest x i l)) t.within t.does v;
+    }

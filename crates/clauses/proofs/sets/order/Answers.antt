@@ -1,10 +1,6 @@
 -- The invariant: the two clauses are the same up to i, and the comparison goes on from there.
-use borrow.Author.Rules.{rules}
 use native.Mathlib.Omega.{arith}
-use Prim.Native.Nat.{◌+◌, ◌-◌, ◌≤◌}
-use mathlib.Core.Path.{◌≡◌, refl, sym, ◌∙◌}
-use lib.ListN.{length, drop}
-use Rattle.clauses.specs.Sets.{cmp_numbers}
+use mathlib.Core.Path.{refl}
 use Rattle.clauses.specs.Ranks.{part}
 use Rattle.clauses.proofs.Comparing.{part_length, part_at, ends_first, ends_second, ends_both, is_less, is_more, is_same}
 use Rattle.clauses.proofs.sets.order.Goals as goal

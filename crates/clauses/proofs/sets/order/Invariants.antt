@@ -1,11 +1,8 @@
-use borrow.Author.Rules.{rules}
-use native.Mathlib.Omega.{arith}
-use Prim.Native.Nat.{◌+◌, ◌-◌, ◌≤◌}
-use mathlib.Core.Path.{◌≡◌, refl, sym, ◌∙◌}
-use lib.ListN.{length, drop}
+use Prim.Native.Nat.{◌-◌, ◌≤◌}
+use mathlib.Core.Path.{◌≡◌}
+use lib.ListN.{drop}
 use Rattle.clauses.specs.Sets.{cmp_numbers}
 use Rattle.clauses.specs.Ranks.{part}
-use Rattle.clauses.proofs.Comparing.{part_length, part_at, ends_first, ends_second, ends_both, is_less, is_more, is_same}
 use Rattle.clauses.proofs.sets.order.Given as goal
 
 abbrev pub invariant-loop-i : goal.invariant-loop-i

@@ -1,11 +1,8 @@
 -- Each turn puts the carried number down and takes up the one that stood there: the list with the carried number in it stays.
-use borrow.Author.Rules.{rules}
 use native.Mathlib.Omega.{arith}
-use Prim.Native.Nat.{◌-◌, ◌≤◌}
-use mathlib.Core.Path.{◌≡◌, refl}
-use mathlib.Core.List.{◌∷◌, ◌++◌}
-use lib.ListN.{length, take, length-set}
-use Rattle.clauses.proofs.Carry.{mid, shifted_more, shifted_end}
+use mathlib.Core.Path.{refl}
+use lib.ListN.{length-set}
+use Rattle.clauses.proofs.Carry.{shifted_more, shifted_end}
 use Rattle.clauses.proofs.sets.shift.Goals as goal
 
 pub loop-j-init : goal.loop-j-init

@@ -1,10 +1,8 @@
-use borrow.Author.Rules.{rules}
-use native.Mathlib.Omega.{arith}
 use Prim.Native.Nat.{◌-◌, ◌≤◌}
-use mathlib.Core.Path.{◌≡◌, refl}
+use mathlib.Core.Path.{◌≡◌}
 use mathlib.Core.List.{◌∷◌, ◌++◌}
-use lib.ListN.{length, take, length-set}
-use Rattle.clauses.proofs.Carry.{mid, shifted_more, shifted_end}
+use lib.ListN.{length, take}
+use Rattle.clauses.proofs.Carry.{mid}
 use Rattle.clauses.proofs.sets.shift.Given as goal
 
 abbrev pub invariant-loop-j : goal.invariant-loop-j

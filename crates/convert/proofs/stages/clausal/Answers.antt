@@ -1,5 +1,4 @@
 -- Stage 4 is too heavy, or its form goes on to stage 5.
-use borrow.Author.Rules.{rules}
 use mathlib.Core.Path.{refl, sym, ◌∙◌}
 use Prim.Native.Nat.{ℕ}
 use lib.ListN.{length-replicate}

@@ -1,6 +1,4 @@
 -- The Skolem form's text, or a clause set of its matrix.
-use borrow.Author.Rules.{rules}
-use native.Mathlib.Omega.{arith}
 use Rattle.convert.proofs.Shown.{by_last}
 use Rattle.convert.proofs.stages.ended.Goals as goal
 

@@ -1,10 +1,8 @@
 -- The words of the blocks stay, and each step puts one word of the matrix behind them.
-use borrow.Author.Rules.{rules}
 use native.Mathlib.Omega.{arith}
 use mathlib.Core.Path.{◌≡◌, sym, ◌∙◌}
-use mathlib.Core.List.{◌++◌, append-nil}
-use Prim.Native.Nat.{◌+◌, ◌-◌, ◌≤◌}
-use lib.ListN.{length, take, length-set}
+use mathlib.Core.List.{append-nil}
+use lib.ListN.{length, length-set}
 use Rattle.definitions.specs.Limits.{house}
 use Rattle.convert.proofs.Joining.{one_more, joined_weight, joined_words}
 use Rattle.convert.proofs.stages.join.Goals as goal

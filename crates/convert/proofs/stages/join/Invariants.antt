@@ -1,11 +1,8 @@
-use borrow.Author.Rules.{rules}
-use native.Mathlib.Omega.{arith}
-use mathlib.Core.Path.{◌≡◌, sym, ◌∙◌}
-use mathlib.Core.List.{◌++◌, append-nil}
+use mathlib.Core.Path.{◌≡◌}
+use mathlib.Core.List.{◌++◌}
 use Prim.Native.Nat.{◌+◌, ◌-◌, ◌≤◌}
-use lib.ListN.{length, take, length-set}
+use lib.ListN.{length, take}
 use Rattle.definitions.specs.Limits.{house}
-use Rattle.convert.proofs.Joining.{one_more, joined_weight, joined_words}
 use Rattle.convert.proofs.stages.join.Given as goal
 
 abbrev pub invariant-loop-i : goal.invariant-loop-i

@@ -1,5 +1,4 @@
 -- Stage 4 is too heavy, or its form is shown.
-use borrow.Author.Rules.{rules}
 use mathlib.Core.Path.{refl}
 use Prim.Native.Nat.{ℕ}
 use lib.ListN.{length-replicate}

@@ -1,5 +1,4 @@
 -- A rule in another form is refused, then one with a `#`; the blocks and the matrix of any other go on to stage 3.
-use borrow.Author.Rules.{rules}
 use native.Mathlib.Omega.{arith}
 use mathlib.Core.Path.{refl, sym, ◌∙◌}
 use mathlib.Core.Bool.{true, false}

@@ -1,5 +1,4 @@
 -- A rule that is not in Skolem form is refused; the blocks of one that is are left out.
-use borrow.Author.Rules.{rules}
 use mathlib.Core.Path.{refl, sym, ◌∙◌}
 use Prim.Native.Nat.{ℕ}
 use lib.ListN.{length-replicate}

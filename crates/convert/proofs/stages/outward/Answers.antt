@@ -1,10 +1,8 @@
 -- Stage 1 keeps the words out of the made names, so stage 2 can have them.
-use borrow.Author.Rules.{rules}
 use native.Mathlib.Omega.{arith}
-use mathlib.Core.Path.{◌≡◌, ◌∙◌}
+use mathlib.Core.Path.{◌∙◌}
 use Prim.Native.Nat.{ℕ}
 use lib.ListN.{length-replicate}
-use Rattle.definitions.specs.Limits.{house}
 use Rattle.definitions.specs.Simplify.{simplify}
 use Rattle.convert.proofs.Joining.{unmade_zeros, plain_words}
 use Rattle.convert.proofs.Passed.{as_pnf}

@@ -1,6 +1,4 @@
 -- The prenex form is too heavy, or has a name that is too long, or is shown.
-use borrow.Author.Rules.{rules}
-use native.Mathlib.Omega.{arith}
 use mathlib.Core.Path.{refl, sym, ◌∙◌}
 use Rattle.definitions.specs.Prenex.{pnf}
 use Rattle.convert.proofs.Shown.{as_well, is_refused}

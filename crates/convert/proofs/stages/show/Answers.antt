@@ -1,5 +1,4 @@
 -- The writer's answer, under the conversions' names.
-use borrow.Author.Rules.{rules}
 use mathlib.Core.Path.{ap}
 use Rattle.writer.specs.Writer.{answer_of}
 use Rattle.convert.proofs.Shown.{shown}

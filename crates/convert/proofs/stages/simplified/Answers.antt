@@ -1,5 +1,4 @@
 -- Stage 1 refuses nothing of a rule within the limits, and its form is shown.
-use borrow.Author.Rules.{rules}
 use Prim.Native.Nat.{ℕ}
 use lib.ListN.{length-replicate}
 use Rattle.convert.proofs.Shown.{as_well, simplify_fits}

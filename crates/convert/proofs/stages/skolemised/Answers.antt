@@ -1,5 +1,4 @@
 -- A `#` is refused first; then the prenex form is refused, or goes on to stage 3.
-use borrow.Author.Rules.{rules}
 use native.Mathlib.Omega.{arith}
 use mathlib.Core.Path.{refl, sym, ◌∙◌}
 use Rattle.definitions.specs.Prenex.{pnf}

@@ -1,6 +1,4 @@
 -- Each conversion by its own stages.
-use borrow.Author.Rules.{rules}
-use native.Mathlib.Omega.{arith}
 use mathlib.Core.Path.{sym}
 use Rattle.convert.proofs.Shown.{as_well, by_name}
 use Rattle.convert.proofs.Passed.{snf_tree, cnf_tree, dnf_tree, snf_cnf_tree, snf_dnf_tree}

@@ -1,5 +1,4 @@
 -- A rank past the end of the table names the empty part, as `get_or` says.
-use borrow.Author.Rules.{rules}
 use native.Mathlib.Omega.{arith}
 use mathlib.Core.Path.{sym, ap, ◌∙◌}
 use Prim.Native.Nat.{◌%◌, ◌≤◌}

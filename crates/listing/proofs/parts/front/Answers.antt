@@ -1,5 +1,4 @@
 -- Where there are at most n words, `take` takes all of them.
-use borrow.Author.Rules.{rules}
 use native.Mathlib.Omega.{arith}
 use mathlib.Core.Path.{◌≡◌, sym}
 use Prim.Native.Nat.{◌-◌}

@@ -1,5 +1,4 @@
 -- Where the part starts past the end both sides are empty.
-use borrow.Author.Rules.{rules}
 use native.Mathlib.Omega.{arith}
 use mathlib.Core.Path.{sym, ap, ◌∙◌}
 use Prim.Native.Nat.{◌-◌, ◌/◌, ◌%◌, ◌≤◌}

@@ -1,14 +1,11 @@
 -- The loop keeps that the literals so far are written behind the line.
-use borrow.Author.Rules.{rules}
 use native.Mathlib.Omega.{arith}
-use mathlib.Core.Path.{◌≡◌, refl, ◌∙◌}
-use Prim.Native.Nat.{◌-◌, ◌≤◌}
+use mathlib.Core.Path.{refl, ◌∙◌}
 use lib.ListN.{length}
 use Rattle.definitions.specs.Clauses.{clause_word, counted_line}
-use Rattle.writer.specs.Writer.{Wrote}
 use Rattle.writer.specs.PutLaws.{wrote_both}
 use Rattle.listing.specs.Texts.{each_text, literal_text, clause_text}
-use Rattle.listing.proofs.Loops.{so_far, head_room, rest_room, wrote_start, wrote_room, wrote_on, wrote_end}
+use Rattle.listing.proofs.Loops.{head_room, rest_room, wrote_start, wrote_room, wrote_on, wrote_end}
 use Rattle.listing.proofs.puts.clause.Goals as goal
 
 pub line-next-requires : goal.line-next-requires

@@ -1,13 +1,9 @@
-use borrow.Author.Rules.{rules}
-use native.Mathlib.Omega.{arith}
-use mathlib.Core.Path.{◌≡◌, refl, ◌∙◌}
+use mathlib.Core.Path.{◌≡◌}
 use Prim.Native.Nat.{◌-◌, ◌≤◌}
 use lib.ListN.{length}
-use Rattle.definitions.specs.Clauses.{clause_word, counted_line}
 use Rattle.writer.specs.Writer.{Wrote}
-use Rattle.writer.specs.PutLaws.{wrote_both}
-use Rattle.listing.specs.Texts.{each_text, literal_text, clause_text}
-use Rattle.listing.proofs.Loops.{so_far, head_room, rest_room, wrote_start, wrote_room, wrote_on, wrote_end}
+use Rattle.listing.specs.Texts.{literal_text}
+use Rattle.listing.proofs.Loops.{so_far}
 use Rattle.listing.proofs.puts.clause.Given as goal
 
 abbrev pub invariant-loop-i : goal.invariant-loop-i

@@ -1,5 +1,4 @@
 -- The word, TAB, the number and LF, one behind another.
-use borrow.Author.Rules.{rules}
 use native.Mathlib.Omega.{arith}
 use mathlib.Core.Path.{◌∙◌}
 use Rattle.writer.specs.PutLaws.{wrote_both, puts_size}

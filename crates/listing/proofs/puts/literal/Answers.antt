@@ -1,5 +1,4 @@
 -- The sign's line, and behind it the atom's text.
-use borrow.Author.Rules.{rules}
 use native.Mathlib.Omega.{arith}
 use mathlib.Core.Path.{refl, ◌∙◌}
 use Rattle.writer.specs.PutLaws.{puts_size}

@@ -1,5 +1,4 @@
 -- The number says which of the two lines it is.
-use borrow.Author.Rules.{rules}
 use borrow.Author.Tests.{le-leb, lt-leb}
 use native.Mathlib.Omega.{arith}
 use Rattle.writer.specs.PutLaws.{puts_size}

@@ -1,11 +1,9 @@
 -- The loop keeps that the size is that of the line and of the literals so far.
-use borrow.Author.Rules.{rules}
 use native.Mathlib.Omega.{arith}
-use Prim.Native.Nat.{◌-◌, ◌≤◌}
 use lib.ListN.{length}
 use Rattle.definitions.specs.Clauses.{clause_word, counted_line}
 use Rattle.listing.specs.Texts.{literal_text, clause_text}
-use Rattle.listing.proofs.Loops.{Counted, counted_start, headless, counted_on, counted_out, counted_end}
+use Rattle.listing.proofs.Loops.{counted_start, headless, counted_on, counted_out, counted_end}
 use Rattle.listing.proofs.sizes.clause.Goals as goal
 
 pub returns-in_default : goal.returns-in_default

@@ -1,5 +1,4 @@
 -- The word, TAB, the digits and LF are as long as they are together.
-use borrow.Author.Rules.{rules}
 use native.Mathlib.Omega.{arith}
 use Prim.Native.Nat.{◌+◌}
 use lib.ListN.{length}

@@ -1,11 +1,9 @@
 -- The loop keeps that the size is that of the line and of the clauses so far.
-use borrow.Author.Rules.{rules}
 use native.Mathlib.Omega.{arith}
-use Prim.Native.Nat.{◌-◌, ◌≤◌}
 use lib.ListN.{length}
 use Rattle.definitions.specs.Clauses.{clauses_word, counted_line}
 use Rattle.listing.specs.Texts.{stored_text, set_text}
-use Rattle.listing.proofs.Loops.{Counted, counted_start, headless, counted_on, counted_out, counted_end}
+use Rattle.listing.proofs.Loops.{counted_start, headless, counted_on, counted_out, counted_end}
 use Rattle.listing.proofs.sizes.listing.Goals as goal
 
 pub returns-in_default : goal.returns-in_default

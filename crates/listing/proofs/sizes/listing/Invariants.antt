@@ -1,10 +1,8 @@
-use borrow.Author.Rules.{rules}
-use native.Mathlib.Omega.{arith}
 use Prim.Native.Nat.{◌-◌, ◌≤◌}
 use lib.ListN.{length}
 use Rattle.definitions.specs.Clauses.{clauses_word, counted_line}
-use Rattle.listing.specs.Texts.{stored_text, set_text}
-use Rattle.listing.proofs.Loops.{Counted, counted_start, headless, counted_on, counted_out, counted_end}
+use Rattle.listing.specs.Texts.{stored_text}
+use Rattle.listing.proofs.Loops.{Counted}
 use Rattle.listing.proofs.sizes.listing.Given as goal
 
 abbrev pub invariant-loop-i : goal.invariant-loop-i

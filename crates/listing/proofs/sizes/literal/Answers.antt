@@ -1,5 +1,4 @@
 -- The sign's line is 4 bytes long, and the writer measures the atom.
-use borrow.Author.Rules.{rules}
 use native.Mathlib.Omega.{arith}
 use mathlib.Core.Path.{refl}
 use Rattle.writer.specs.MeasureLaws.{too_long, was_short}

@@ -7,7 +7,6 @@ use Rattle.prenex.proofs.Heads.{plain}
 use Rattle.prenex.proofs.Nodes.{put_begins, run_begins, halves}
 use Rattle.prenex.proofs.Walking.{runs_nowhere, runs_no_kind, runs_constant, runs_equation, runs_predicate, not_stops, runs_not, runs_and, runs_or, runs_imp, runs_iff, still_ready, blocks_stop, runs_block}
 use Rattle.prenex.proofs.Sides.{first_side, second_side, forth, back, of_first, of_second, of_forth, of_back, word_stops, first_stops, second_stops, merge_stops, merge_ends, as_pair, as_iff}
-use Prim.Native.Nat.{ℕ, ◌<◌, ◌+◌, ◌*◌, ◌-◌, max}
 use Rattle.prenex.proofs.outward.+four_outward_pair.Goals as goal
 
 pub four-put-h-requires : goal.four-put-h-requires
@@ -19,15 +18,14 @@ four-returns-then-h-ne0 t c =
     as_iff T a.flip (word_stops (forth a.flip) (back a.flip) c.requires p.0 (p.1 T) c.if-h-ne0.true)
 
 pub four-pair-l-requires : goal.four-pair-l-requires
-four-pair-l-requires t c =
-    (
-      omega arith,
-      (
-        put_begins c.requires
-            c.put-h.ensures.0,
-        omega arith,
-      ),
-    )
+four-pair-l-requires t c = (
+  omega arith,
+  (
+    put_begins c.requires
+        c.put-h.ensures.0,
+    omega arith,
+  ),
+)
 
 pub four-shape_of-made-then-l-ne0 : goal.four-shape_of-made-then-l-ne0
 four-shape_of-made-then-l-ne0 t c = omega (arith, c.pair-l.ensures.0.between.size)
@@ -40,14 +38,13 @@ four-returns-then-l-ne0 t c =
     (l.1 imp refl refl)) c.if-l-ne0.true)
 
 pub four-pair-r-requires : goal.four-pair-r-requires
-four-pair-r-requires t c =
-    (
-      omega arith,
-      (
-        run_begins c.requires c.pair-l.ensures.0,
-        omega arith,
-      ),
-    )
+four-pair-r-requires t c = (
+  omega arith,
+  (
+    run_begins c.requires c.pair-l.ensures.0,
+    omega arith,
+  ),
+)
 
 pub four-shape_of-made-then-r-ne0 : goal.four-shape_of-made-then-r-ne0
 four-shape_of-made-then-r-ne0 t c =
@@ -296,12 +293,11 @@ pair-returns-then-h-ne0 t c =
     c.if-h-ne0.true)
 
 pub pair-outward-l-requires : goal.pair-outward-l-requires
-pair-outward-l-requires t c =
-    (
-      omega arith,
-      put_begins c.requires.0
-          c.put-h.ensures.0,
-    )
+pair-outward-l-requires t c = (
+  omega arith,
+  put_begins c.requires.0
+      c.put-h.ensures.0,
+)
 
 pub pair-shape_of-made-then-l-ne0 : goal.pair-shape_of-made-then-l-ne0
 pair-shape_of-made-then-l-ne0 t c = omega (arith, c.outward-l.ensures.safe.between.size)
@@ -314,12 +310,11 @@ pair-returns-then-l-ne0 t c =
     c.if-h-ne0.false (of_first l) c.if-l-ne0.true)
 
 pub pair-outward-r-requires : goal.pair-outward-r-requires
-pair-outward-r-requires t c =
-    (
-      omega arith,
-      run_begins c.requires.0
-          c.outward-l.ensures.safe,
-    )
+pair-outward-r-requires t c = (
+  omega arith,
+  run_begins c.requires.0
+      c.outward-l.ensures.safe,
+)
 
 pub pair-shape_of-made-then-r-ne0 : goal.pair-shape_of-made-then-r-ne0
 pair-shape_of-made-then-r-ne0 t c =

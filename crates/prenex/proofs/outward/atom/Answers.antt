@@ -1,5 +1,4 @@
 -- What is copied ends where the formula does.
-use borrow.Author.Rules.{rules}
 use native.Mathlib.Omega.{arith}
 use mathlib.Core.List.{[]}
 use Rattle.text.specs.Weights.{words_weight}

@@ -1,6 +1,4 @@
 -- As it stands, or the other block's kind.
-use borrow.Author.Rules.{rules}
-use borrow.Author.Tests.{not-true, not-false}
 use native.Mathlib.Omega.{arith}
 use Rattle.prenex.proofs.Heads.{as_it_is, all_turned, ex_turned}
 use Rattle.prenex.proofs.outward.turned.Goals as goal

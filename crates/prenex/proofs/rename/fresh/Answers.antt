@@ -1,14 +1,8 @@
 -- The loop keeps `Grows`: each turn that finds the name taken adds a backtick of the slot.
-use borrow.Author.Rules.{rules}
-use borrow.Author.Tests.{not-true, not-false}
 use native.Mathlib.Omega.{arith}
 use mathlib.Core.Path.{sym, ◌∙◌}
-use Prim.Native.Nat.{◌-◌, ◌/◌, ◌%◌}
 use lib.ListN.{get_or}
-use lib.Seq.{slice}
-use Rattle.text.specs.Words.{spell, tokens}
-use Rattle.prenex.specs.Renaming.{all_names}
-use Rattle.prenex.proofs.Growing.{Grows, grows_start, grows_size, grows_on, grown, too_long}
+use Rattle.prenex.proofs.Growing.{grows_start, grows_size, grows_on, grown, too_long}
 use Rattle.prenex.proofs.rename.fresh.Goals as goal
 
 pub loop-new-init : goal.loop-new-init

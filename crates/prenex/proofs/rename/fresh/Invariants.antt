@@ -1,13 +1,9 @@
-use borrow.Author.Rules.{rules}
-use borrow.Author.Tests.{not-true, not-false}
-use native.Mathlib.Omega.{arith}
-use mathlib.Core.Path.{sym, ◌∙◌}
 use Prim.Native.Nat.{◌-◌, ◌/◌, ◌%◌}
 use lib.ListN.{get_or}
 use lib.Seq.{slice}
 use Rattle.text.specs.Words.{spell, tokens}
 use Rattle.prenex.specs.Renaming.{all_names}
-use Rattle.prenex.proofs.Growing.{Grows, grows_start, grows_size, grows_on, grown, too_long}
+use Rattle.prenex.proofs.Growing.{Grows}
 use Rattle.prenex.proofs.rename.fresh.Given as goal
 
 abbrev pub invariant-loop-new : goal.invariant-loop-new

@@ -1,13 +1,7 @@
 -- The loop keeps: the name is in the whole run exactly if it is in what is left of it.
-use borrow.Author.Rules.{rules}
 use native.Mathlib.Omega.{arith}
-use Prim.Native.Nat.{◌-◌}
-use mathlib.Core.Path.{◌≡◌, refl, sym, ◌∙◌}
-use mathlib.Core.Logic.{⊎_elim}
-use lib.Seq.{slice}
-use Rattle.definitions.specs.Names.{mem}
-use Rattle.text.specs.Words.{spell, tokens}
-use Rattle.text.specs.Prefixes.{names}
+use mathlib.Core.Path.{sym, ◌∙◌}
+use Rattle.text.specs.Words.{spell}
 use Rattle.prenex.proofs.Words.{mem_var, mem_other, mem_none}
 use Rattle.prenex.proofs.rename.occurs.Goals as goal
 use Rattle.prenex.proofs.rename.occurs.Goals.{then-w-eq-VAR+else-spelled_same, else-w-eq-VAR}
@@ -23,10 +17,11 @@ loop-i-preserved c =
     let a = c.args in
     let x = spell a.text.now a.made.now a.word in
     c.loop-i.invariant ∙ elim c.if-w-eq-VAR.branch [
-      then-w-eq-VAR+else-spelled_same w ↦
-        mem_var a.text.now a.made.now a.words.now x c.loop-i.i a.to (omega arith) (omega arith) w.if-w-eq-VAR.true
-        ∙ rw (sym w.spelled_same.ensures ∙ w.if-spelled_same.false)
-    | else-w-eq-VAR w ↦ mem_other a.text.now a.made.now a.words.now x c.loop-i.i a.to (omega arith) (omega arith) w.if-w-eq-VAR.false ]
+      | then-w-eq-VAR+else-spelled_same w ↦
+          mem_var a.text.now a.made.now a.words.now x c.loop-i.i a.to (omega arith) (omega arith) w.if-w-eq-VAR.true
+          ∙ rw (sym w.spelled_same.ensures ∙ w.if-spelled_same.false)
+      | else-w-eq-VAR w ↦ mem_other a.text.now a.made.now a.words.now x c.loop-i.i a.to (omega arith) (omega arith) w.if-w-eq-VAR.false
+    ]
 
 pub returns : goal.returns
 returns c =

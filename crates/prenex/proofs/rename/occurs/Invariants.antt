@@ -1,13 +1,9 @@
-use borrow.Author.Rules.{rules}
-use native.Mathlib.Omega.{arith}
 use Prim.Native.Nat.{◌-◌}
-use mathlib.Core.Path.{◌≡◌, refl, sym, ◌∙◌}
-use mathlib.Core.Logic.{⊎_elim}
+use mathlib.Core.Path.{◌≡◌}
 use lib.Seq.{slice}
 use Rattle.definitions.specs.Names.{mem}
 use Rattle.text.specs.Words.{spell, tokens}
 use Rattle.text.specs.Prefixes.{names}
-use Rattle.prenex.proofs.Words.{mem_var, mem_other, mem_none}
 use Rattle.prenex.proofs.rename.occurs.Given as goal
 
 abbrev pub invariant-loop-i : goal.invariant-loop-i

@@ -1,5 +1,4 @@
 -- The variable is not in the other side's matrix, or is bound by the other side's prefix, or is free there: then it is given a new name.
-use borrow.Author.Tests.{not-true, not-false}
 use native.Mathlib.Omega.{arith}
 use Rattle.prenex.proofs.Place.{not_there, bound_there, free_there, at_slot, stays, fails, new_kind, takes}
 use Rattle.prenex.proofs.rename.one.Goals as goal

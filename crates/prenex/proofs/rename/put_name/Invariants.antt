@@ -1,9 +1,5 @@
-use borrow.Author.Rules.{rules}
-use native.Mathlib.Omega.{arith}
 use Prim.Native.Nat.{◌-◌, ◌≤◌}
-use mathlib.Core.Path.{◌≡◌, sym, ◌∙◌}
-use mathlib.Core.Logic.{⊎_elim}
-use Rattle.prenex.proofs.Putting.{Puts, puts_start, puts_hit, puts_miss, puts_other}
+use Rattle.prenex.proofs.Putting.{Puts}
 use Rattle.prenex.proofs.rename.put_name.Given as goal
 
 abbrev pub invariant-loop-i : goal.invariant-loop-i

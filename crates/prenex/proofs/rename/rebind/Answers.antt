@@ -1,5 +1,4 @@
 -- What a block behind it binds again stays as it is.
-use borrow.Author.Rules.{rules}
 use native.Mathlib.Omega.{arith}
 use mathlib.Core.Path.{sym, ◌∙◌}
 use Rattle.text.specs.Words.{tokens}

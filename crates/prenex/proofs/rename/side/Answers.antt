@@ -1,8 +1,6 @@
 -- The loop keeps `Goes`: the words before `at` are done, and the walk of those left gives the rest.
 use native.Mathlib.Omega.{arith}
-use mathlib.Core.Logic.{⊎_elim}
-use Prim.Native.Nat.{◌-◌}
-use Rattle.prenex.proofs.Goes.{Goes, goes_start, goes_head, spot, goes_stop, goes_var, goes_end}
+use Rattle.prenex.proofs.Goes.{goes_start, goes_head, spot, goes_stop, goes_var, goes_end}
 use Rattle.prenex.proofs.rename.side.Goals as goal
 use Rattle.prenex.proofs.rename.side.Goals.{then-prefix-at-eq-VAR+else-one, else-prefix-at-eq-VAR}
 
@@ -33,11 +31,12 @@ loop-at-preserved c =
     let T = c.args.text.now in
     let h = c.loop-at-test.true in
     elim c.if-prefix-at-eq-VAR.branch [
-      then-prefix-at-eq-VAR+else-one w ↦
-        rw (w.prefix-is, w.matrix-is, w.low-is)
-        (goes_var T c.args.first c.requires.0 c.loop-at.invariant h w.if-prefix-at-eq-VAR.true w.one.ensures w.if-one.false)
-    | else-prefix-at-eq-VAR w ↦
-        rw (w.prefix-is, w.matrix-is, w.low-is) (goes_head T c.args.first c.requires.0 c.loop-at.invariant h w.if-prefix-at-eq-VAR.false) ]
+      | then-prefix-at-eq-VAR+else-one w ↦
+          rw (w.prefix-is, w.matrix-is, w.low-is)
+          (goes_var T c.args.first c.requires.0 c.loop-at.invariant h w.if-prefix-at-eq-VAR.true w.one.ensures w.if-one.false)
+      | else-prefix-at-eq-VAR w ↦
+          rw (w.prefix-is, w.matrix-is, w.low-is) (goes_head T c.args.first c.requires.0 c.loop-at.invariant h w.if-prefix-at-eq-VAR.false)
+    ]
 
 pub returns : goal.returns
 returns c = goes_end c.args.text.now c.args.first c.requires.0 c.loop-at.invariant c.requires.1 c.loop-at-test.false

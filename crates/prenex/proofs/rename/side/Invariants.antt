@@ -1,7 +1,5 @@
-use native.Mathlib.Omega.{arith}
-use mathlib.Core.Logic.{⊎_elim}
 use Prim.Native.Nat.{◌-◌}
-use Rattle.prenex.proofs.Goes.{Goes, goes_start, goes_head, spot, goes_stop, goes_var, goes_end}
+use Rattle.prenex.proofs.Goes.{Goes}
 use Rattle.prenex.proofs.rename.side.Given as goal
 
 abbrev pub invariant-loop-at : goal.invariant-loop-at

@@ -1,5 +1,4 @@
 -- A name is in one of three runs: each is asked in turn.
-use borrow.Author.Rules.{rules}
 use lib.Seq.{slice}
 use Rattle.text.specs.Words.{tokens}
 use Rattle.text.specs.Prefixes.{names}

@@ -2,7 +2,6 @@
 use native.Mathlib.Omega.{arith}
 use mathlib.Core.Path.{refl}
 use Rattle.prenex.proofs.Weighing.{farther, nowhere_weighs, no_formula, constant_weighs, not_weighs, both_weigh, iff_weighs, equation_weighs, predicate_weighs, block_weighs}
-use Prim.Native.Nat.{ℕ, ◌<◌, ◌-◌}
 use Rattle.prenex.proofs.weight.+weigh.Goals as goal
 
 pub returns-then-at-ge-WEIGHT : goal.returns-then-at-ge-WEIGHT

@@ -1,9 +1,6 @@
 -- The loop's invariant is resumption: where the terms that are left end, all of them end.
-use borrow.Author.Rules.{rules}
 use native.Mathlib.Omega.{arith}
 use mathlib.Core.Path.{◌≡◌}
-use Prim.Native.Nat.{ℕ, ◌+◌, ◌-◌, ◌*◌, ◌≤◌}
-use Rattle.prenex.specs.Weights.{Ends}
 use Rattle.prenex.proofs.TermEnds.{none_due, source_ends, one_more}
 use Rattle.prenex.proofs.weight.terms.Goals as goal
 

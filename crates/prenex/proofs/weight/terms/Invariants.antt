@@ -1,9 +1,5 @@
-use borrow.Author.Rules.{rules}
-use native.Mathlib.Omega.{arith}
-use mathlib.Core.Path.{◌≡◌}
 use Prim.Native.Nat.{ℕ, ◌+◌, ◌-◌, ◌*◌, ◌≤◌}
 use Rattle.prenex.specs.Weights.{Ends}
-use Rattle.prenex.proofs.TermEnds.{none_due, source_ends, one_more}
 use Rattle.prenex.proofs.weight.terms.Given as goal
 
 abbrev pub invariant-loop-left : goal.invariant-loop-left

@@ -1,8 +1,6 @@
 -- The loop keeps `Laying`: the head and the first i variables stand behind the prefix.
-use borrow.Author.Rules.{rules}
 use native.Mathlib.Omega.{arith}
-use Prim.Native.Nat.{◌+◌, ◌-◌, ◌≤◌}
-use Rattle.prenex.proofs.Blocking.{Laying, head_places, no_place, laying_start, laying_on, laying_full, laying_outside, laying_long, laying_done}
+use Rattle.prenex.proofs.Blocking.{head_places, no_place, laying_start, laying_on, laying_full, laying_outside, laying_long, laying_done}
 use Rattle.prenex.proofs.write.block.Goals as goal
 
 pub returns-then-used-ge-WEIGHT : goal.returns-then-used-ge-WEIGHT

@@ -1,7 +1,5 @@
-use borrow.Author.Rules.{rules}
-use native.Mathlib.Omega.{arith}
 use Prim.Native.Nat.{◌+◌, ◌-◌, ◌≤◌}
-use Rattle.prenex.proofs.Blocking.{Laying, head_places, no_place, laying_start, laying_on, laying_full, laying_outside, laying_long, laying_done}
+use Rattle.prenex.proofs.Blocking.{Laying}
 use Rattle.prenex.proofs.write.block.Given as goal
 
 abbrev pub invariant-loop-i : goal.invariant-loop-i

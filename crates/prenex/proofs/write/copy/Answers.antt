@@ -1,8 +1,6 @@
 -- The loop keeps `Copying`: the words from `at` up to i stand behind the matrix.
-use borrow.Author.Rules.{rules}
 use native.Mathlib.Omega.{arith}
-use Prim.Native.Nat.{◌-◌}
-use Rattle.prenex.proofs.Appending.{Copying, copying_start, copying_on, copying_extends, copying_outside, copying_full, copying_done}
+use Rattle.prenex.proofs.Appending.{copying_start, copying_on, copying_extends, copying_outside, copying_full, copying_done}
 use Rattle.prenex.proofs.write.copy.Goals as goal
 
 pub loop-i-init : goal.loop-i-init

@@ -1,7 +1,5 @@
-use borrow.Author.Rules.{rules}
-use native.Mathlib.Omega.{arith}
 use Prim.Native.Nat.{◌-◌}
-use Rattle.prenex.proofs.Appending.{Copying, copying_start, copying_on, copying_extends, copying_outside, copying_full, copying_done}
+use Rattle.prenex.proofs.Appending.{Copying}
 use Rattle.prenex.proofs.write.copy.Given as goal
 
 abbrev pub invariant-loop-i : goal.invariant-loop-i

@@ -1,12 +1,11 @@
 -- The loop keeps: the slot's first i bytes are laid.
-use borrow.Author.Rules.{rules}
 use native.Mathlib.Omega.{arith}
 use native.Mathlib.Numerals.{add-one}
 use mathlib.Core.Path.{◌≡◌, refl, sym, ap₂, ◌∙◌}
 use mathlib.Core.List.{List}
-use Prim.Native.Nat.{ℕ, ◌+◌, ◌-◌, ◌≤◌}
-use lib.ListN.{length, set, length-set}
-use lib.Seq.{paste, paste-zero, paste-suc}
+use Prim.Native.Nat.{ℕ, ◌+◌}
+use lib.ListN.{set, length-set}
+use lib.Seq.{paste-zero, paste-suc}
 use Rattle.prenex.specs.Tables.{padded}
 use Rattle.prenex.proofs.Laying.{getD_padded, padded_length}
 use Rattle.prenex.proofs.write.lay.Goals as goal

@@ -1,5 +1,4 @@
 -- The origin mark is taken off, or was not there.
-use borrow.Author.Rules.{rules}
 use borrow.Author.Tests.{eq-eqb, ne_eqb}
 use native.Mathlib.Omega.{arith}
 use mathlib.Core.Path.{refl}

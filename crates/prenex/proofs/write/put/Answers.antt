@@ -1,5 +1,4 @@
 -- One word, if there is room.
-use borrow.Author.Rules.{rules}
 use native.Mathlib.Omega.{arith}
 use Rattle.prenex.proofs.Appending.{put_none, put_full, put_extends, put_was_done}
 use Rattle.prenex.proofs.write.put.Goals as goal

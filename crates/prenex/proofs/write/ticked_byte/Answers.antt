@@ -1,5 +1,4 @@
 -- Inside the name its byte, behind it a backtick.
-use borrow.Author.Rules.{rules}
 use native.Mathlib.Omega.{arith}
 use mathlib.Core.Path.{sym}
 use lib.ListN.{get_or-eq_default}

@@ -1,5 +1,4 @@
 -- The name goes into the place's slot, or is too long for it.
-use borrow.Author.Rules.{rules}
 use native.Mathlib.Omega.{arith}
 use mathlib.Core.Path.{ap, ◌∙◌}
 use mathlib.Core.List.{List}

@@ -1,5 +1,4 @@
 -- The test of the code is that of `above`.
-use borrow.Author.Rules.{rules}
 use borrow.Author.Tests.{lt-ltb, le-ltb}
 use Rattle.skolem.specs.Counting.{last_number}
 use Rattle.skolem.proofs.counters.next.Goals as goal

@@ -1,5 +1,4 @@
 -- A constant draws from one count, a function from the other.
-use borrow.Author.Rules.{rules}
 use Rattle.skolem.proofs.Drawing.{constant_entitled, function_entitled, not_entitled}
 use Rattle.skolem.proofs.heads.entitle.Goals as goal
 

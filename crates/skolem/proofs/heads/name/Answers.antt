@@ -1,5 +1,4 @@
 -- Each refusal is a lack of room; with room the three pieces stand one behind another, and the word points at them.
-use borrow.Author.Rules.{rules}
 use native.Mathlib.Omega.{arith}
 use Prim.Native.Nat.{◌+◌, ◌≤◌}
 use lib.ListN.{length}

@@ -1,11 +1,7 @@
 -- The loop keeps that the heads so far have their names, and the rest are as they were.
-use borrow.Author.Rules.{rules}
 use borrow.Author.Tests.{not-true, not-false}
-use mathlib.Core.Path.{◌≡◌, ◌∙◌}
-use Prim.Native.Nat.{◌≤◌, ◌-◌}
-use lib.ListN.{length}
-use Rattle.definitions.specs.Limits.{house}
-use Rattle.skolem.proofs.Drawing.{Naming, naming_start, naming_stop, naming_on, naming_end}
+use mathlib.Core.Path.{◌∙◌}
+use Rattle.skolem.proofs.Drawing.{naming_start, naming_stop, naming_on, naming_end}
 use Rattle.skolem.proofs.heads.name_all.Goals as goal
 
 pub loop-i-init : goal.loop-i-init

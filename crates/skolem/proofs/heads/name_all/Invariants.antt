@@ -1,10 +1,8 @@
-use borrow.Author.Rules.{rules}
-use borrow.Author.Tests.{not-true, not-false}
-use mathlib.Core.Path.{◌≡◌, ◌∙◌}
+use mathlib.Core.Path.{◌≡◌}
 use Prim.Native.Nat.{◌≤◌, ◌-◌}
 use lib.ListN.{length}
 use Rattle.definitions.specs.Limits.{house}
-use Rattle.skolem.proofs.Drawing.{Naming, naming_start, naming_stop, naming_on, naming_end}
+use Rattle.skolem.proofs.Drawing.{Naming}
 use Rattle.skolem.proofs.heads.name_all.Given as goal
 
 abbrev pub invariant-loop-i : goal.invariant-loop-i

@@ -1,13 +1,7 @@
 -- The loop keeps that the rest of the entries picks the same head.
-use borrow.Author.Rules.{rules}
-use mathlib.Core.Path.{◌≡◌, refl, sym, ◌∙◌}
-use mathlib.Core.List.{map}
-use Prim.Native.Nat.{◌≤◌, ◌-◌}
-use lib.ListN.{length, take}
-use lib.Seq.{slice}
-use Rattle.definitions.specs.Limits.{house}
+use mathlib.Core.Path.{refl, sym, ◌∙◌}
 use Rattle.text.specs.Words.{spell, token}
-use Rattle.skolem.specs.Pass.{pick, binds}
+use Rattle.skolem.specs.Pass.{binds}
 use Rattle.skolem.proofs.FillLaws.{pick_on, pick_end}
 use Rattle.skolem.proofs.matrix.belongs.Goals as goal
 

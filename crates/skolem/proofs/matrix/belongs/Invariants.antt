@@ -1,5 +1,4 @@
-use borrow.Author.Rules.{rules}
-use mathlib.Core.Path.{◌≡◌, refl, sym, ◌∙◌}
+use mathlib.Core.Path.{◌≡◌}
 use mathlib.Core.List.{map}
 use Prim.Native.Nat.{◌≤◌, ◌-◌}
 use lib.ListN.{length, take}
@@ -7,7 +6,6 @@ use lib.Seq.{slice}
 use Rattle.definitions.specs.Limits.{house}
 use Rattle.text.specs.Words.{spell, token}
 use Rattle.skolem.specs.Pass.{pick, binds}
-use Rattle.skolem.proofs.FillLaws.{pick_on, pick_end}
 use Rattle.skolem.proofs.matrix.belongs.Given as goal
 
 abbrev pub invariant-loop-i : goal.invariant-loop-i

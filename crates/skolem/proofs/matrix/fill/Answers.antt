@@ -1,14 +1,8 @@
 -- The loop keeps that what the first i words become is written.
-use borrow.Author.Rules.{rules}
 use native.Mathlib.Omega.{arith}
-use mathlib.Core.Bool.{false}
-use mathlib.Core.Path.{◌≡◌}
-use Prim.Native.Nat.{◌≤◌, ◌-◌}
-use lib.ListN.{length, take, get_or}
-use Rattle.definitions.specs.Limits.{house}
+use lib.ListN.{take, get_or}
 use Rattle.text.specs.Words.{token}
 use Rattle.skolem.specs.Pass.{filled}
-use Rattle.skolem.specs.Filling.{Fit, Adds}
 use Rattle.skolem.proofs.FillLaws.{adds_none, run_on, run_stop, run_end, filled_one, filled_joins, filled_none}
 use Rattle.skolem.proofs.matrix.fill.Goals as goal
 

@@ -1,14 +1,11 @@
-use borrow.Author.Rules.{rules}
-use native.Mathlib.Omega.{arith}
 use mathlib.Core.Bool.{false}
 use mathlib.Core.Path.{◌≡◌}
 use Prim.Native.Nat.{◌≤◌, ◌-◌}
-use lib.ListN.{length, take, get_or}
+use lib.ListN.{length, take}
 use Rattle.definitions.specs.Limits.{house}
 use Rattle.text.specs.Words.{token}
 use Rattle.skolem.specs.Pass.{filled}
 use Rattle.skolem.specs.Filling.{Fit, Adds}
-use Rattle.skolem.proofs.FillLaws.{adds_none, run_on, run_stop, run_end, filled_one, filled_joins, filled_none}
 use Rattle.skolem.proofs.matrix.fill.Given as goal
 
 abbrev pub invariant-loop-i : goal.invariant-loop-i

@@ -1,12 +1,8 @@
 -- The loop keeps that those of the first i heads are written that stay.
-use borrow.Author.Rules.{rules}
 use native.Mathlib.Omega.{arith}
 use mathlib.Core.Path.{◌≡◌}
-use Prim.Native.Nat.{◌≤◌, ◌-◌}
-use lib.ListN.{length, take, length-take}
+use lib.ListN.{take, length-take}
 use lib.Seq.{take_all}
-use Rattle.definitions.specs.Limits.{house}
-use Rattle.skolem.specs.Filling.{Keeps}
 use Rattle.skolem.proofs.FillLaws.{keeps_none, keeps_both, take_one}
 use Rattle.skolem.proofs.matrix.foralls.Goals as goal
 

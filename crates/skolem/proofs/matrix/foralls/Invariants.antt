@@ -1,12 +1,8 @@
-use borrow.Author.Rules.{rules}
-use native.Mathlib.Omega.{arith}
 use mathlib.Core.Path.{◌≡◌}
 use Prim.Native.Nat.{◌≤◌, ◌-◌}
-use lib.ListN.{length, take, length-take}
-use lib.Seq.{take_all}
+use lib.ListN.{length, take}
 use Rattle.definitions.specs.Limits.{house}
 use Rattle.skolem.specs.Filling.{Keeps}
-use Rattle.skolem.proofs.FillLaws.{keeps_none, keeps_both, take_one}
 use Rattle.skolem.proofs.matrix.foralls.Given as goal
 
 abbrev pub invariant-loop-i : goal.invariant-loop-i

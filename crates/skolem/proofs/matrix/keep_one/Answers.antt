@@ -1,5 +1,4 @@
 -- Each way through the tests is a law of one word.
-use borrow.Author.Rules.{rules}
 use Rattle.skolem.proofs.FillLaws.{block_stays, variable_stays, no_more_stays}
 use Rattle.skolem.proofs.matrix.keep_one.Goals as goal
 

@@ -1,5 +1,4 @@
 -- Each way through the tests is a law of one word.
-use borrow.Author.Rules.{rules}
 use Rattle.skolem.proofs.FillLaws.{no_room, too_wide, function_put, other_put}
 use Rattle.skolem.proofs.matrix.put.Goals as goal
 

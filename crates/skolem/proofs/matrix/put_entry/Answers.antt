@@ -1,5 +1,4 @@
 -- A variable becomes the term that it belongs to, and any other word stays.
-use borrow.Author.Rules.{rules}
 use lib.ListN.{take}
 use Rattle.skolem.proofs.FillLaws.{other_becomes, variable_becomes}
 use Rattle.skolem.proofs.matrix.put_entry.Goals as goal

@@ -1,12 +1,6 @@
 -- The loop keeps that the first i words are written.
-use borrow.Author.Rules.{rules}
 use native.Mathlib.Omega.{arith}
-use mathlib.Core.Bool.{false}
-use mathlib.Core.Path.{◌≡◌, refl}
-use Prim.Native.Nat.{◌≤◌, ◌-◌}
-use lib.ListN.{length, take}
-use Rattle.definitions.specs.Limits.{house}
-use Rattle.skolem.specs.Filling.{Fit, Adds}
+use mathlib.Core.Path.{refl}
 use Rattle.skolem.proofs.FillLaws.{adds_none, run_on, run_stop, run_end}
 use Rattle.skolem.proofs.matrix.put_scope.Goals as goal
 

@@ -1,12 +1,9 @@
-use borrow.Author.Rules.{rules}
-use native.Mathlib.Omega.{arith}
 use mathlib.Core.Bool.{false}
-use mathlib.Core.Path.{◌≡◌, refl}
+use mathlib.Core.Path.{◌≡◌}
 use Prim.Native.Nat.{◌≤◌, ◌-◌}
 use lib.ListN.{length, take}
 use Rattle.definitions.specs.Limits.{house}
 use Rattle.skolem.specs.Filling.{Fit, Adds}
-use Rattle.skolem.proofs.FillLaws.{adds_none, run_on, run_stop, run_end}
 use Rattle.skolem.proofs.matrix.put_scope.Given as goal
 
 abbrev pub invariant-loop-i : goal.invariant-loop-i

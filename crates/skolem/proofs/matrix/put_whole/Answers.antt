@@ -1,5 +1,4 @@
 -- A head is written, and a function its arguments behind it.
-use borrow.Author.Rules.{rules}
 use native.Mathlib.Omega.{arith}
 use lib.ListN.{take}
 use Rattle.skolem.proofs.FillLaws.{adds_stop, adds_both, other_whole, function_whole}

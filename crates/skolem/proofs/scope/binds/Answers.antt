@@ -1,13 +1,7 @@
 -- The loop keeps that the name is bound from the start on exactly if it is from i on.
 use borrow.Author.Rules.{rules}
-use mathlib.Core.Path.{◌≡◌, refl}
-use Prim.Native.Nat.{◌≤◌, ◌-◌}
-use lib.ListN.{length}
-use lib.Seq.{slice}
-use Rattle.definitions.specs.Limits.{house}
-use Rattle.definitions.specs.Names.{mem}
-use Rattle.text.specs.Words.{spell, tokens}
-use Rattle.text.specs.Prefixes.{names}
+use mathlib.Core.Path.{refl}
+use Rattle.text.specs.Words.{spell}
 use Rattle.skolem.proofs.WordLaws.{bound_here, bound_on, bound_end}
 use Rattle.skolem.proofs.scope.binds.Goals as goal
 

@@ -1,5 +1,4 @@
-use borrow.Author.Rules.{rules}
-use mathlib.Core.Path.{◌≡◌, refl}
+use mathlib.Core.Path.{◌≡◌}
 use Prim.Native.Nat.{◌≤◌, ◌-◌}
 use lib.ListN.{length}
 use lib.Seq.{slice}
@@ -7,7 +6,6 @@ use Rattle.definitions.specs.Limits.{house}
 use Rattle.definitions.specs.Names.{mem}
 use Rattle.text.specs.Words.{spell, tokens}
 use Rattle.text.specs.Prefixes.{names}
-use Rattle.skolem.proofs.WordLaws.{bound_here, bound_on, bound_end}
 use Rattle.skolem.proofs.scope.binds.Given as goal
 
 abbrev pub invariant-loop-i : goal.invariant-loop-i

@@ -1,12 +1,8 @@
 -- The loop keeps that what is gathered, with the rest of the matrix, is all that is to be gathered.
-use borrow.Author.Rules.{rules}
-use mathlib.Core.Path.{◌≡◌}
-use Prim.Native.Nat.{◌≤◌, ◌-◌}
-use lib.ListN.{length, take}
-use Rattle.definitions.specs.Limits.{house}
+use lib.ListN.{take}
 use Rattle.text.specs.Words.{tokens}
 use Rattle.text.specs.Prefixes.{names}
-use Rattle.skolem.proofs.ScopeLaws.{Gathering, gathering_start, gathering_on, gathering_end}
+use Rattle.skolem.proofs.ScopeLaws.{gathering_start, gathering_on, gathering_end}
 use Rattle.skolem.proofs.scope.free_variables.Goals as goal
 
 pub loop-i-init : goal.loop-i-init

@@ -1,11 +1,10 @@
-use borrow.Author.Rules.{rules}
 use mathlib.Core.Path.{◌≡◌}
 use Prim.Native.Nat.{◌≤◌, ◌-◌}
 use lib.ListN.{length, take}
 use Rattle.definitions.specs.Limits.{house}
 use Rattle.text.specs.Words.{tokens}
 use Rattle.text.specs.Prefixes.{names}
-use Rattle.skolem.proofs.ScopeLaws.{Gathering, gathering_start, gathering_on, gathering_end}
+use Rattle.skolem.proofs.ScopeLaws.{Gathering}
 use Rattle.skolem.proofs.scope.free_variables.Given as goal
 
 abbrev pub invariant-loop-i : goal.invariant-loop-i

@@ -1,5 +1,4 @@
 -- Each way through the tests is a case of `is_new`.
-use borrow.Author.Rules.{rules}
 use lib.ListN.{take}
 use Rattle.text.specs.Words.{tokens}
 use Rattle.text.specs.Prefixes.{names}

@@ -1,5 +1,4 @@
 -- One word more while fewer than the most are kept.
-use borrow.Author.Rules.{rules}
 use Rattle.skolem.proofs.WordLaws.{push_full, push_one}
 use Rattle.skolem.proofs.scope.push.Goals as goal
 

@@ -1,5 +1,4 @@
 -- Where the other word is a variable, the spellings are compared.
-use borrow.Author.Rules.{rules}
 use mathlib.Core.Path.{sym, ap, ◌∙◌}
 use Rattle.text.specs.Words.{spell}
 use Rattle.text.specs.WordLaws.{variable_word, other_word}

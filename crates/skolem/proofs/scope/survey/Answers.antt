@@ -1,13 +1,6 @@
 -- The loop keeps what the survey of the rest, from i on, adds to what is there: each way through a turn is a step of the survey.
-use borrow.Author.Rules.{rules}
-use mathlib.Core.Bool.{false}
-use mathlib.Core.Path.{◌≡◌, refl}
-use Prim.Native.Nat.{◌≤◌, ◌-◌}
-use lib.ListN.{length, take}
-use Rattle.definitions.specs.Limits.{house}
-use Rattle.text.specs.Words.{token}
-use Rattle.skolem.specs.Pass.{survey, blank_word}
-use Rattle.skolem.proofs.ScopeLaws.{Surveying, surveying_start, block_begun, head_made, entry_kept, surveying_end}
+use mathlib.Core.Path.{refl}
+use Rattle.skolem.proofs.ScopeLaws.{surveying_start, block_begun, head_made, entry_kept, surveying_end}
 use Rattle.skolem.proofs.scope.survey.Goals as goal
 
 pub loop-i-init : goal.loop-i-init

@@ -1,12 +1,11 @@
-use borrow.Author.Rules.{rules}
 use mathlib.Core.Bool.{false}
-use mathlib.Core.Path.{◌≡◌, refl}
+use mathlib.Core.Path.{◌≡◌}
 use Prim.Native.Nat.{◌≤◌, ◌-◌}
 use lib.ListN.{length, take}
 use Rattle.definitions.specs.Limits.{house}
 use Rattle.text.specs.Words.{token}
 use Rattle.skolem.specs.Pass.{survey, blank_word}
-use Rattle.skolem.proofs.ScopeLaws.{Surveying, surveying_start, block_begun, head_made, entry_kept, surveying_end}
+use Rattle.skolem.proofs.ScopeLaws.{Surveying}
 use Rattle.skolem.proofs.scope.survey.Given as goal
 
 abbrev pub invariant-loop-i : goal.invariant-loop-i

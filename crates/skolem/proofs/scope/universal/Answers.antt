@@ -1,5 +1,4 @@
 -- The test is the condition of the contract.
-use borrow.Author.Rules.{rules}
 use Rattle.skolem.proofs.ScopeLaws.{again_bound, not_again}
 use Rattle.skolem.proofs.scope.universal.Goals as goal
 

@@ -1,11 +1,7 @@
 -- The loop keeps that there is such a word exactly if there is one from i on.
-use borrow.Author.Rules.{rules}
-use mathlib.Core.Path.{◌≡◌, refl}
-use Prim.Native.Nat.{◌-◌, ◌≤◌}
-use lib.ListN.{length}
-use lib.Seq.{slice}
+use mathlib.Core.Path.{refl}
 use Rattle.text.specs.Words.{kind_of_word}
-use Rattle.skolem.specs.Shape.{any, between}
+use Rattle.skolem.specs.Shape.{between}
 use Rattle.skolem.proofs.LookLaws.{any_here, any_on, any_end}
 use Rattle.skolem.proofs.shape.any_kind.Goals as goal
 

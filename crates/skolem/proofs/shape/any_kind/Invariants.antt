@@ -1,11 +1,9 @@
-use borrow.Author.Rules.{rules}
-use mathlib.Core.Path.{◌≡◌, refl}
+use mathlib.Core.Path.{◌≡◌}
 use Prim.Native.Nat.{◌-◌, ◌≤◌}
 use lib.ListN.{length}
 use lib.Seq.{slice}
 use Rattle.text.specs.Words.{kind_of_word}
 use Rattle.skolem.specs.Shape.{any, between}
-use Rattle.skolem.proofs.LookLaws.{any_here, any_on, any_end}
 use Rattle.skolem.proofs.shape.any_kind.Given as goal
 
 abbrev pub invariant-loop-i : goal.invariant-loop-i

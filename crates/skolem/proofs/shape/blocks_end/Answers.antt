@@ -1,9 +1,5 @@
 -- The loop keeps that the blocks of the rest, from i on, end where all of them do.
-use borrow.Author.Rules.{rules}
-use borrow.Author.Tests.{not-true, not-false}
-use Prim.Native.Nat.{◌-◌, ◌≤◌}
-use lib.ListN.{length}
-use Rattle.skolem.proofs.LookLaws.{Looking, looking_start, past_header, past_one, ends_here, ends_last}
+use Rattle.skolem.proofs.LookLaws.{looking_start, past_header, past_one, ends_here, ends_last}
 use Rattle.skolem.proofs.shape.blocks_end.Goals as goal
 
 pub loop-i-init : goal.loop-i-init

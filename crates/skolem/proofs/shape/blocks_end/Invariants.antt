@@ -1,8 +1,6 @@
-use borrow.Author.Rules.{rules}
-use borrow.Author.Tests.{not-true, not-false}
 use Prim.Native.Nat.{◌-◌, ◌≤◌}
 use lib.ListN.{length}
-use Rattle.skolem.proofs.LookLaws.{Looking, looking_start, past_header, past_one, ends_here, ends_last}
+use Rattle.skolem.proofs.LookLaws.{Looking}
 use Rattle.skolem.proofs.shape.blocks_end.Given as goal
 
 abbrev pub invariant-loop-i : goal.invariant-loop-i

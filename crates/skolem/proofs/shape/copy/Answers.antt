@@ -1,11 +1,6 @@
 -- The loop keeps that the words up to i stand at the front.
-use borrow.Author.Rules.{rules}
 use native.Mathlib.Omega.{arith}
-use mathlib.Core.Path.{◌≡◌}
-use Prim.Native.Nat.{◌-◌, ◌≤◌}
-use lib.ListN.{length}
-use Rattle.definitions.specs.Limits.{house}
-use Rattle.skolem.proofs.LookLaws.{Moved, moved_none, moved_on, moved_all}
+use Rattle.skolem.proofs.LookLaws.{moved_none, moved_on, moved_all}
 use Rattle.skolem.proofs.shape.copy.Goals as goal
 
 pub loop-i-init : goal.loop-i-init

@@ -1,10 +1,8 @@
-use borrow.Author.Rules.{rules}
-use native.Mathlib.Omega.{arith}
 use mathlib.Core.Path.{◌≡◌}
 use Prim.Native.Nat.{◌-◌, ◌≤◌}
 use lib.ListN.{length}
 use Rattle.definitions.specs.Limits.{house}
-use Rattle.skolem.proofs.LookLaws.{Moved, moved_none, moved_on, moved_all}
+use Rattle.skolem.proofs.LookLaws.{Moved}
 use Rattle.skolem.proofs.shape.copy.Given as goal
 
 abbrev pub invariant-loop-i : goal.invariant-loop-i

@@ -1,12 +1,8 @@
 -- The loop keeps that there is such a word exactly if there is one from i on.
-use borrow.Author.Rules.{rules}
 use native.Mathlib.Omega.{arith}
-use mathlib.Core.Path.{◌≡◌, refl}
-use Prim.Native.Nat.{◌-◌, ◌≤◌}
-use lib.ListN.{length}
-use lib.Seq.{slice}
+use mathlib.Core.Path.{refl}
 use Rattle.text.specs.Words.{token}
-use Rattle.skolem.specs.Shape.{any, hashed}
+use Rattle.skolem.specs.Shape.{hashed}
 use Rattle.skolem.proofs.LookLaws.{any_here, any_on, any_end, hash_told}
 use Rattle.skolem.proofs.shape.has_hash.Goals as goal
 

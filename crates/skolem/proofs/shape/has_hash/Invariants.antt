@@ -1,12 +1,9 @@
-use borrow.Author.Rules.{rules}
-use native.Mathlib.Omega.{arith}
-use mathlib.Core.Path.{◌≡◌, refl}
+use mathlib.Core.Path.{◌≡◌}
 use Prim.Native.Nat.{◌-◌, ◌≤◌}
 use lib.ListN.{length}
 use lib.Seq.{slice}
 use Rattle.text.specs.Words.{token}
 use Rattle.skolem.specs.Shape.{any, hashed}
-use Rattle.skolem.proofs.LookLaws.{any_here, any_on, any_end, hash_told}
 use Rattle.skolem.proofs.shape.has_hash.Given as goal
 
 abbrev pub invariant-loop-i : goal.invariant-loop-i

@@ -1,9 +1,4 @@
 -- The loop keeps that the name has `#` exactly if it has from i on.
-use borrow.Author.Rules.{rules}
-use mathlib.Core.Path.{◌≡◌, refl}
-use Prim.Native.Nat.{◌-◌}
-use lib.ListN.{length, drop}
-use Rattle.definitions.specs.Skolem.{holds_hash}
 use Rattle.skolem.proofs.LookLaws.{hash_here, hash_on, hash_end}
 use Rattle.skolem.proofs.shape.hash_in.Goals as goal
 

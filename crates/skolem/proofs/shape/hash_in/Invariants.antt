@@ -1,9 +1,7 @@
-use borrow.Author.Rules.{rules}
-use mathlib.Core.Path.{◌≡◌, refl}
+use mathlib.Core.Path.{◌≡◌}
 use Prim.Native.Nat.{◌-◌}
 use lib.ListN.{length, drop}
 use Rattle.definitions.specs.Skolem.{holds_hash}
-use Rattle.skolem.proofs.LookLaws.{hash_here, hash_on, hash_end}
 use Rattle.skolem.proofs.shape.hash_in.Given as goal
 
 abbrev pub invariant-loop-i : goal.invariant-loop-i

@@ -1,5 +1,4 @@
 -- Only functions and constants are asked.
-use borrow.Author.Rules.{rules}
 use mathlib.Core.Path.{sym, ap, ◌∙◌}
 use Rattle.definitions.specs.Skolem.{holds_hash}
 use Rattle.skolem.proofs.LookLaws.{hashed_function, hashed_constant, hashed_other}

@@ -1,5 +1,4 @@
 -- A block behind the first ones, and an exists block among these, tell the shape.
-use borrow.Author.Rules.{rules}
 use Rattle.skolem.proofs.LookLaws.{other_told, prenex_told, skolem_told}
 use Rattle.skolem.proofs.shape.shape_of.Goals as goal
 

@@ -1,5 +1,4 @@
 -- The blocks are the front of the nodes, and the rest is moved to the front of another array.
-use borrow.Author.Rules.{rules}
 use native.Mathlib.Omega.{arith}
 use mathlib.Core.Path.{refl, sym, ◌∙◌}
 use Rattle.text.specs.Wholes.{is_whole, never_short}

@@ -1,5 +1,4 @@
 -- By whether a conversion was named.
-use borrow.Author.Rules.{rules}
 use mathlib.Core.Path.{sym, ◌∙◌}
 use borrow.Author.Tests.{le-ltb, lt-ltb}
 use Rattle.stream.proofs.machine.behind_first.Goals as goal

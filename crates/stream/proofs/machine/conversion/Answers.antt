@@ -1,9 +1,8 @@
 -- The loop keeps that none of the conversions before the place is named.
-use borrow.Author.Rules.{rules}
 use native.Mathlib.Omega.{arith}
 use mathlib.Core.Path.{◌≡◌}
 use mathlib.Core.List.{[], ◌∷◌, ◌++◌}
-use Prim.Native.Nat.{suc, ◌+◌, ◌-◌, ◌≤◌}
+use Prim.Native.Nat.{suc, ◌+◌}
 use lib.ListN.{drop}
 use Rattle.definitions.specs.Bytes.{LF}
 use Rattle.definitions.specs.Program.{conversions}

@@ -1,13 +1,10 @@
-use borrow.Author.Rules.{rules}
-use native.Mathlib.Omega.{arith}
 use mathlib.Core.Path.{◌≡◌}
 use mathlib.Core.List.{[], ◌∷◌, ◌++◌}
-use Prim.Native.Nat.{suc, ◌+◌, ◌-◌, ◌≤◌}
+use Prim.Native.Nat.{◌+◌, ◌-◌, ◌≤◌}
 use lib.ListN.{drop}
 use Rattle.definitions.specs.Bytes.{LF}
 use Rattle.definitions.specs.Program.{conversions}
 use Rattle.stream.specs.Machine.{number_of}
-use Rattle.stream.proofs.ByteLaws.{named_here, named_behind, named_none}
 use Rattle.stream.proofs.machine.conversion.Given as goal
 
 abbrev pub invariant-loop-place : goal.invariant-loop-place

@@ -1,5 +1,4 @@
 -- By whether the line ends, and by whether it is too long.
-use borrow.Author.Rules.{rules}
 use Rattle.stream.proofs.ByteLaws.{first_ended, first_over, first_kept}
 use Rattle.stream.proofs.machine.in_first.Goals as goal
 

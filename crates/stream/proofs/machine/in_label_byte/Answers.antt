@@ -1,5 +1,4 @@
 -- By whether the label ends, and by whether it is too long.
-use borrow.Author.Rules.{rules}
 use Rattle.stream.proofs.ByteLaws.{label_ended, label_over, label_kept}
 use Rattle.stream.proofs.machine.in_label_byte.Goals as goal
 

@@ -1,5 +1,4 @@
 -- By whether the byte goes on with `rule` TAB.
-use borrow.Author.Rules.{rules}
 use native.Mathlib.Omega.{arith}
 use Rattle.stream.proofs.ByteLaws.{few_matched, second_more, second_missed}
 use Rattle.stream.proofs.machine.in_second.Goals as goal

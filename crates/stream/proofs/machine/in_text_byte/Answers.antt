@@ -1,5 +1,4 @@
 -- A good label's text is kept, another's skipped.
-use borrow.Author.Rules.{rules}
 use Rattle.stream.proofs.ByteLaws.{text_kept, text_skipped}
 use Rattle.stream.proofs.machine.in_text_byte.Goals as goal
 

@@ -1,5 +1,4 @@
 -- The kept bytes are the first of the buffer.
-use borrow.Author.Rules.{rules}
 use mathlib.Core.Path.{ap, ◌∙◌}
 use mathlib.Core.List.{[], ◌∷◌, ◌++◌}
 use Rattle.definitions.specs.Program.{conversions}

@@ -1,5 +1,4 @@
 -- The kept bytes are the first of the buffer, and kind 10 has names without `#` or backtick.
-use borrow.Author.Rules.{rules}
 use mathlib.Core.Path.{ap, ◌∙◌}
 use Rattle.definitions.specs.Limits.{house}
 use Rattle.definitions.specs.RuleText.{simple_name, is_name}

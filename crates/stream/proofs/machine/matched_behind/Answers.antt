@@ -1,5 +1,4 @@
 -- By whether the byte matches, and by whether it ends the line.
-use borrow.Author.Rules.{rules}
 use native.Mathlib.Omega.{arith}
 use Rattle.stream.proofs.ByteLaws.{few_matched, match_more, match_ended, match_missed}
 use Rattle.stream.proofs.machine.matched_behind.Goals as goal

@@ -1,5 +1,4 @@
 -- Past the five bytes none matches; before, the word is read at its place.
-use borrow.Author.Rules.{rules}
 use mathlib.Core.Path.{sym}
 use borrow.Author.Tests.{le-ltb, lt-ltb}
 use Rattle.stream.proofs.machine.matches.Goals as goal

@@ -1,5 +1,4 @@
 -- Each test leaves one place, and looks whether the line is `do` TAB and that conversion's name.
-use borrow.Author.Rules.{rules}
 use native.Mathlib.Omega.{arith}
 use mathlib.Core.Path.{◌∙◌}
 use Rattle.stream.proofs.ByteLaws.{looked_at, looked_past}

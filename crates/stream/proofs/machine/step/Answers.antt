@@ -1,5 +1,4 @@
 -- Each phase has its own function; the match says which phase it is.
-use borrow.Author.Rules.{rules}
 use mathlib.Core.Path.{sym, ap, ◌∙◌}
 use Rattle.stream.specs.Machine.{at}
 use Rattle.stream.proofs.ByteLaws.{phase_step}

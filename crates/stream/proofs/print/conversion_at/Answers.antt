@@ -1,5 +1,4 @@
 -- Each test leaves one place.
-use borrow.Author.Rules.{rules}
 use native.Mathlib.Omega.{arith}
 use mathlib.Core.Path.{sym}
 use Rattle.stream.proofs.PrintLaws.{at_place, past_places}

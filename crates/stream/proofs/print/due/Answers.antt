@@ -1,7 +1,4 @@
 -- Without room nothing is printed; otherwise the phase says what is.
-use borrow.Author.Rules.{rules}
-use native.Mathlib.Omega.{arith}
-use mathlib.Core.Path.{◌≡◌, ap}
 use Rattle.stream.proofs.PrintLaws.{due_phase, prints_put, prints_none, nothing_put, done_put, rule_due}
 use Rattle.stream.proofs.print.due.Goals as goal
 

@@ -1,5 +1,4 @@
 -- Its two numbers say what an answer means.
-use borrow.Author.Rules.{rules}
 use Rattle.stream.proofs.PrintLaws.{told_numbers}
 use Rattle.stream.proofs.print.in_numbers.Goals as goal
 

@@ -1,6 +1,4 @@
 -- Without room nothing is printed; otherwise the phase says what is.
-use borrow.Author.Rules.{rules}
-use native.Mathlib.Omega.{arith}
 use Rattle.stream.proofs.PrintLaws.{last_phase, prints_put, prints_none, refused_put, unnamed_put}
 use Rattle.stream.proofs.print.last.Goals as goal
 

@@ -1,5 +1,4 @@
 -- Each test leaves one place, and its name has at most eight bytes.
-use borrow.Author.Rules.{rules}
 use native.Mathlib.Omega.{arith}
 use Rattle.definitions.specs.Convert.{to_simplified}
 use Rattle.stream.specs.Machine.{conversion_found}

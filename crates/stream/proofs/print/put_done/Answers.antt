@@ -1,7 +1,6 @@
 -- Three runs of bytes, one behind another.
-use borrow.Author.Rules.{rules}
 use native.Mathlib.Omega.{arith}
-use Rattle.stream.proofs.PrintLaws.{done_line_put, word_short}
+use Rattle.stream.proofs.PrintLaws.{done_line_put}
 use Rattle.stream.proofs.print.put_done.Goals as goal
 
 pub put_conversion-second-requires : goal.put_conversion-second-requires

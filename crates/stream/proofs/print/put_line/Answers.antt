@@ -1,5 +1,4 @@
 -- Three runs of bytes, one behind another.
-use borrow.Author.Rules.{rules}
 use Rattle.stream.proofs.PrintLaws.{line_put}
 use Rattle.stream.proofs.print.put_line.Goals as goal
 

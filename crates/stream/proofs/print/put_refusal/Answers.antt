@@ -1,6 +1,4 @@
 -- Five runs of bytes; a number has at most 20 digits.
-use borrow.Author.Rules.{rules}
-use native.Mathlib.Omega.{arith}
 use Rattle.stream.proofs.PrintLaws.{refusal_put}
 use Rattle.stream.proofs.print.put_refusal.Goals as goal
 

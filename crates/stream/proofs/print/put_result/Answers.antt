@@ -1,9 +1,7 @@
 -- The conversion lays its result in the part of out that it is lent, or lays nothing, and then the refusal is written there.
-use borrow.Author.Rules.{rules}
 use native.Mathlib.Omega.{arith}
 use mathlib.Core.Path.{refl}
 use Prim.Native.Nat.{◌+◌, ◌-◌}
-use borrow.Rule.Slice.PartMut.{same_len_mid}
 use Rattle.stream.proofs.PrintLaws.{part_back, given_short, result_given, result_refused}
 use Rattle.stream.proofs.print.put_result.Goals as goal
 

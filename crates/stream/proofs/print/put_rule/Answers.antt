@@ -1,5 +1,4 @@
 -- The label and the text are parts of what is kept; the rule line is written before the result.
-use borrow.Author.Rules.{rules}
 use native.Mathlib.Omega.{arith}
 use Rattle.stream.proofs.PrintLaws.{name_fits, line_fits, rule_good, rule_bad}
 use Rattle.stream.proofs.print.put_rule.Goals as goal

@@ -1,6 +1,4 @@
 -- There is no second line, or it is no rule line.
-use borrow.Author.Rules.{rules}
-use native.Mathlib.Omega.{arith}
 use Rattle.stream.proofs.PrintLaws.{second_done, second_refused}
 use Rattle.stream.proofs.print.put_second.Goals as goal
 

@@ -1,5 +1,4 @@
 -- Where the part starts past the end both sides are empty; where it is longer than what is left, `take` takes all of that.
-use borrow.Author.Rules.{rules}
 use native.Mathlib.Omega.{arith}
 use Prim.Native.Nat.{◌+◌, ◌-◌, ◌≤◌}
 use mathlib.Core.Path.{◌≡◌, sym, ◌∙◌}

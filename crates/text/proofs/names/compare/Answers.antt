@@ -2,11 +2,8 @@
 -- from i on.
 use borrow.Author.Rules.{rules}
 use native.Mathlib.Omega.{arith}
-use mathlib.Core.Logic.{⊎_elim}
-use mathlib.Core.Path.{◌≡◌}
 use Prim.Native.Nat.{◌≤◌, ◌-◌}
-use lib.ListN.{length, drop}
-use Rattle.definitions.specs.Order.{cmp_name}
+use lib.ListN.{length}
 use Rattle.text.proofs.Comparing.{Alike, alike_none, alike_less, alike_backward, begun, eight_less, eight_greater}
 use Rattle.text.proofs.Comparing.{compare_less, compare_greater, compare_on, left_longer, right_longer, both_end}
 use Rattle.text.proofs.names.compare.Goals as goal
@@ -46,15 +43,15 @@ pub loop-i-2-init : goal.loop-i-2-init
 loop-i-2-init c =
     let a = c.args in let last = c.shorter-n.result - 8 in
     let reached : Alike a.a.now a.b.now c.if-n-ge8.i =
-      elim c.if-n-ge8.branch [
-        then-n-ge8+else-loop-i-test+else-x-y-3 w ↦
+    elim c.if-n-ge8.branch [
+      | then-n-ge8+else-loop-i-test+else-x-y-3 w ↦
           alike_less (alike_backward last w.loop-i.invariant (search rules) w.great-x-then-n-ge8.ensures w.great-y-then-n-ge8.ensures (search rules))
           (search rules)
-      | else-n-ge8 w ↦ alike_less alike_none (search rules) ] in
+      | else-n-ge8 w ↦ alike_less alike_none (search rules)
+    ] in
     let within : (c.if-n-ge8.i ≤ length a.a.now) × (c.if-n-ge8.i ≤ length a.b.now) =
-      elim c.if-n-ge8.branch [ then-n-ge8+else-loop-i-test+else-x-y-3 w ↦ search rules | else-n-ge8 w ↦ search rules ] in
+    elim c.if-n-ge8.branch [ then-n-ge8+else-loop-i-test+else-x-y-3 w ↦ search rules | else-n-ge8 w ↦ search rules ] in
     (within.0, begun _ _ c.if-n-ge8.i reached within.0 within.1)
-
 
 pub returns-then-i-b : goal.returns-then-i-b
 returns-then-i-b c = let l = c.loop-i-2 in left_longer _ _ l.i l.invariant.1 (search rules) (search rules)

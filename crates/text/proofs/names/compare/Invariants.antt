@@ -1,12 +1,8 @@
-use borrow.Author.Rules.{rules}
-use native.Mathlib.Omega.{arith}
-use mathlib.Core.Logic.{⊎_elim}
 use mathlib.Core.Path.{◌≡◌}
 use Prim.Native.Nat.{◌≤◌, ◌-◌}
 use lib.ListN.{length, drop}
 use Rattle.definitions.specs.Order.{cmp_name}
-use Rattle.text.proofs.Comparing.{Alike, alike_none, alike_less, alike_backward, begun, eight_less, eight_greater}
-use Rattle.text.proofs.Comparing.{compare_less, compare_greater, compare_on, left_longer, right_longer, both_end}
+use Rattle.text.proofs.Comparing.{Alike}
 use Rattle.text.proofs.names.compare.Given as goal
 
 abbrev pub invariant-loop-i : goal.invariant-loop-i

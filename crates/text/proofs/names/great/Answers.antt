@@ -1,5 +1,4 @@
 -- The digits of two numbers of four digits.
-use borrow.Author.Rules.{rules}
 use native.Mathlib.Omega.{arith}
 use mathlib.Core.Path.{refl, ap}
 use Prim.Native.Nat.{ℕ, ◌+◌, ◌-◌, ◌<◌}

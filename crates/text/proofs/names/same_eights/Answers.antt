@@ -4,7 +4,7 @@ use Prim.Native.Nat.{◌-◌}
 use lib.ListN.{length}
 use Rattle.definitions.specs.Syntax.{Name}
 use Rattle.text.specs.Digits.{digits, onward}
-use Rattle.text.proofs.Comparing.{same_differ, Alike, alike_none, alike_all, alike_onward}
+use Rattle.text.proofs.Comparing.{same_differ, alike_none, alike_all, alike_onward}
 use Rattle.text.proofs.names.same_eights.Goals as goal
 
 pub returns-then-eight : goal.returns-then-eight

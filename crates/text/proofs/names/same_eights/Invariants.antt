@@ -1,9 +1,5 @@
-use borrow.Author.Rules.{rules}
 use Prim.Native.Nat.{◌-◌}
-use lib.ListN.{length}
-use Rattle.definitions.specs.Syntax.{Name}
-use Rattle.text.specs.Digits.{digits, onward}
-use Rattle.text.proofs.Comparing.{same_differ, Alike, alike_none, alike_all, alike_onward}
+use Rattle.text.proofs.Comparing.{Alike}
 use Rattle.text.proofs.names.same_eights.Given as goal
 
 abbrev pub invariant-loop-i : goal.invariant-loop-i

@@ -1,5 +1,4 @@
 -- What the two spellings are, put into what `same_name` says of them.
-use borrow.Author.Rules.{rules}
 use mathlib.Core.Path.{ap₂, ◌∙◌}
 use Rattle.definitions.specs.Bytes.{same}
 use Rattle.text.proofs.names.spelled_same.Goals as goal

@@ -1,5 +1,4 @@
 -- The origin mark chooses the same bytes in the code and in `spell`.
-use borrow.Author.Rules.{rules}
 use borrow.Author.Tests.{eq-eqb, ne_eqb}
 use Prim.Native.Nat.{◌/◌, ◌%◌}
 use Rattle.text.proofs.names.spelling.Goals as goal

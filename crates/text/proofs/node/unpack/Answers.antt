@@ -1,8 +1,6 @@
 -- The tests on the word are those of `unpacked`, and its fields are the word's.
-use borrow.Author.Rules.{rules}
 use native.Mathlib.Omega.{arith}
 use borrow.Author.Tests.{le-leb, lt-leb}
-use mathlib.Core.Path.{ap}
 use Prim.Native.Nat.{◌%◌}
 use Rattle.text.proofs.node.unpack.Goals as goal
 

@@ -1,5 +1,4 @@
 -- The count that is drawn from is the next one then.
-use borrow.Author.Rules.{rules}
 use Rattle.skolem.proofs.counters.Counters.function.Goals as goal
 
 pub returns : goal.returns
