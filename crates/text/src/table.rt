@@ -28,12 +28,17 @@ impl Table {
         }
     }
 
-    // Whether a lent array has the length that its type gives it. It always has: this tells the prover, which knows no length behind a
-    // reference.
+    // Whether there are as many words as a table has.
+    fn is_long(words: &[u64]) -> bool
+        ensures { result ≡ eqb (length words.now) house.weight }
+    {
+        words.len() == Table::WEIGHT
+    }
+
+    // Whether a lent array has the length that its type gives it. It always has.
     pub fn is_whole(nodes: &[u64; Table::WEIGHT]) -> bool
         ensures { result ≡ eqb (length nodes.now) house.weight }
     {
-        let words: &[u64] = nodes;
-        words.len() == Table::WEIGHT
+        Table::is_long(nodes)
     }
 }

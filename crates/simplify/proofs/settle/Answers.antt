@@ -8,35 +8,19 @@ use Rattle.simplify.proofs.Moving.{becomes_itself, becomes_as, becomes_constant}
 use Rattle.simplify.specs.declared.Law.{Law}
 use Rattle.simplify.proofs.settle.Goals as goal
 
-pub enum_told-1 : goal.enum_told-1
-unfolding settled code
-enum_told-1 c = c.in-Other.in-Other-own.keys1
-
 pub returns-in-Other : goal.returns-in-Other
 unfolding settled code
 returns-in-Other c =
     becomes_itself (omega arith) (omega arith) (omega arith) (λ f. ap (λ (l : Law). settled l f) c.in-Other.is) c.shift.ensures
 
-pub enum_told-in-Turned : goal.enum_told-in-Turned
-unfolding settled code
-enum_told-in-Turned c = c.in-Turned.in-Turned-own.keys2
-
 pub returns-in-Turned : goal.returns-in-Turned
 unfolding settled code
 returns-in-Turned c = becomes_as (λ f. ap (λ (l : Law). settled l f) c.in-Turned.is) c.turn.ensures
-
-pub enum_told-in-Top : goal.enum_told-in-Top
-unfolding settled code
-enum_told-in-Top c = c.in-Top.in-Top-own.keys3
 
 pub returns-in-Top : goal.returns-in-Top
 unfolding settled code
 returns-in-Top c =
     becomes_constant (omega arith) (omega arith) (omega arith) 0 top refl (λ T M. refl) (λ o T M f e. ap (λ (l : Law). settled l f) c.in-Top.is)
-
-pub enum_told-in-Bottom : goal.enum_told-in-Bottom
-unfolding settled code
-enum_told-in-Bottom c = c.in-Bottom.in-Bottom-own.keys4
 
 pub returns-in-Bottom : goal.returns-in-Bottom
 unfolding settled code

@@ -10,7 +10,7 @@ use Rattle.text.proofs.names.four.Goals as goal
 pub returns : goal.returns
 returns c =
     let a = c.args in
-    let small : (k : ℕ) → get_or a.s.now k 0 < 256 = λ k. omega (arith, c.shared_slice_known-5-1.given k) in
+    let small : (k : ℕ) → get_or a.s.now k 0 < 256 = λ k. omega (arith, c.type_inv.s k) in
     record {
       value = four_digits (onward a.s.now a.at) c.number.ensures.0 (ap (λ (i : ℕ). get_or a.s.now i 0) (omega arith)) refl refl refl;
       bytes = λ k. small (a.at + k);

@@ -10,7 +10,7 @@ use Rattle.text.proofs.names.great.Goals as goal
 pub returns : goal.returns
 returns c =
     let a = c.args in
-    let small : (k : ℕ) → get_or a.s.now k 0 < 256 = λ k. omega (arith, c.shared_slice_known-9-1.given k) in
+    let small : (k : ℕ) → get_or a.s.now k 0 < 256 = λ k. omega (arith, c.type_inv.s k) in
     let d = backward a.s.now a.at in
     record {
       value =
