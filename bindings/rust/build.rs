@@ -1,4 +1,4 @@
-//! Links the static library that `rt staticlib exports` makes, from target/staticlib or from the folder in WASILEKO_LIB.
+//! Links the static library that `tools/build-library` makes, from target/staticlib or from the folder in WASILEKO_LIB.
 use std::env;
 use std::path::{Path, PathBuf};
 
@@ -8,7 +8,7 @@ fn main() {
         .map_or_else(|| Path::new(&env::var_os("CARGO_MANIFEST_DIR").unwrap()).join("../../target/staticlib"), PathBuf::from);
     let library = folder.join("libexports.a");
     if !library.exists() {
-        panic!("no {}: run `rt staticlib exports` at the top of the repository, or name its folder in WASILEKO_LIB", library.display());
+        panic!("no {}: run `tools/build-library`, or name its folder in WASILEKO_LIB", library.display());
     }
     println!("cargo:rerun-if-changed={}", library.display());
     println!("cargo:rustc-link-search=native={}", folder.display());
