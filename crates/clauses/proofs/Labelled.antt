@@ -15,7 +15,8 @@ use Rattle.definitions.specs.Order.{Atom, rel, same_as, Literal, pos, opp, Claus
 use Rattle.definitions.specs.Clauses.{constant, combine, opposite, distribute, raw_combine, raw_opposite, raw, atom_formula}
 use Rattle.definitions.proofs.Laws.Bools.{clash, or_left, or_right, and_true_left, and_true_right}
 use Rattle.definitions.proofs.Laws.Order.{itself, atom_orders}
-use Rattle.definitions.proofs.Laws.Sorted.{has, over_append}
+use Rattle.definitions.specs.Laws.Sorted.{has}
+use Rattle.definitions.proofs.Laws.Sorted.{over_append}
 use Rattle.definitions.specs.Laws.Shapes.{is_atom, and_or, negated}
 use Rattle.text.specs.Words.{Token, sign, tokens, op_kind, code}
 use Rattle.text.specs.Weights.{words_weight}

@@ -17,8 +17,9 @@ use Rattle.definitions.specs.Order.{Atom, rel, same_as, Literal, cmp_atom, cmp_l
 use Rattle.definitions.specs.Clauses.{atom_formula}
 use Rattle.definitions.proofs.Laws.Bools.{clash, by_cases, and_true_left, and_true_right}
 use Rattle.definitions.specs.Laws.Shapes.{is_atom, and_or, negated}
-use Rattle.definitions.proofs.Laws.Order.{is_less, swap, itself, atom_orders}
-use Rattle.definitions.proofs.Laws.Sorted.{above, sorted, has}
+use Rattle.definitions.specs.Laws.Order.{is_less, swap}
+use Rattle.definitions.proofs.Laws.Order.{itself, atom_orders}
+use Rattle.definitions.specs.Laws.Sorted.{above, sorted, has}
 use Rattle.text.specs.Words.{Token, sign, token, tokens, term_code, terms_code, op_kind, code, kind}
 use Rattle.text.specs.WordLaws.{map_take}
 use Rattle.text.specs.Streams.{behind_part}

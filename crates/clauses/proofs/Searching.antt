@@ -12,8 +12,9 @@ use lib.Seq.{get_or-take, length-take-le, take-take}
 use Rattle.definitions.specs.Truth.{every}
 use Rattle.definitions.specs.Order.{insert}
 use Rattle.definitions.proofs.Laws.Bools.{clash, and_true_left, and_true_right}
-use Rattle.definitions.proofs.Laws.Order.{is_less, Less, Orders, compare_orders}
-use Rattle.definitions.proofs.Laws.Sorted.{above, sorted}
+use Rattle.definitions.specs.Laws.Order.{is_less, Less, Orders}
+use Rattle.definitions.proofs.Laws.Order.{compare_orders}
+use Rattle.definitions.specs.Laws.Sorted.{above, sorted}
 use Rattle.clauses.specs.Each.{Each, none, more}
 use Rattle.clauses.specs.Ranks.{seek}
 use Rattle.clauses.specs.Search.{Falls, Finds}

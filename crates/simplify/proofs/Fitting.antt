@@ -10,7 +10,7 @@ use Rattle.definitions.specs.Syntax.{Name}
 use Rattle.definitions.specs.Names.{mem, filter, keep}
 use Rattle.definitions.proofs.Laws.Bools.{by_cases, clash, and_true_left, and_true_right, or_false_left, or_false_right}
 use Rattle.definitions.proofs.Laws.Sets.{same_eq, same_refl}
-use Rattle.definitions.proofs.Laws.Once.{once}
+use Rattle.definitions.specs.Laws.Once.{once}
 
 either : (p q : Name → Bool) (l : List Name) → length (filter (λ x. p x || q x) l) ≤ length (filter p l) + length (filter q l)
 unfolding filter

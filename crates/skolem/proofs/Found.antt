@@ -16,7 +16,8 @@ use Rattle.definitions.specs.Prenex.{Prefix, plain, more}
 use Rattle.definitions.specs.Skolem.{Counts, function_name, first_number, counts_after, as_vars, skolem_term, binders}
 use Rattle.definitions.proofs.Laws.Bools.{by_cases}
 use Rattle.definitions.proofs.Laws.Sets.{mem_append, same_eq}
-use Rattle.definitions.proofs.Laws.Drawn.{last, put_at, put_else}
+use Rattle.definitions.specs.Laws.Drawn.{last}
+use Rattle.definitions.proofs.Laws.Drawn.{put_at, put_else}
 use Rattle.text.specs.Words.{Token, var_token, sign, term_code, terms_code, op_kind, block_kind, code}
 use Rattle.text.specs.WordLaws.{map_take}
 use Rattle.text.specs.Prefixes.{prefix_code}

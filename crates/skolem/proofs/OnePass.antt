@@ -11,7 +11,8 @@ use Rattle.definitions.specs.Prenex.{Subst, shade, term_sub, terms_sub, sub, Pre
 use Rattle.definitions.specs.Skolem.{Counts, function_name, first_number, counts_after, as_vars, skolem_term, put, binders, skolem}
 use Rattle.definitions.proofs.Laws.Bools.{by_cases, clash, and_true_left, and_true_right, or_false_left, or_false_right}
 use Rattle.definitions.proofs.Laws.Sets.{mem_append}
-use Rattle.definitions.proofs.Laws.Drawn.{last, put_at, put_else}
+use Rattle.definitions.specs.Laws.Drawn.{last}
+use Rattle.definitions.proofs.Laws.Drawn.{put_at, put_else}
 use Rattle.definitions.proofs.Laws.Prenex.{sub_no_block}
 use Rattle.text.specs.Words.{Token, var_token, sign, term_code, terms_code, op_kind, code}
 use Rattle.skolem.proofs.Lists.{filter_append, without_twice, flat_append, flat_same, flat_flat}

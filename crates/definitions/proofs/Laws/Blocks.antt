@@ -1,5 +1,5 @@
 -- What a block of variables says: some (every) assignment that differs from the given one at most on them.
-use Rattle.std.specs.Prelude.{◌≡◌, Bool, true, false, not, ◌&&◌, ◌||◌}
+use Rattle.std.specs.Prelude.{◌≡◌, Bool, true, not, ◌&&◌, ◌||◌}
 use Rattle.std.proofs.Math.Path.{refl, sym, ap, fun_ext}
 use Rattle.std.proofs.Common.{◌∙◌}
 use Rattle.std.proofs.Math.Bool.{not-not}
@@ -11,6 +11,7 @@ use Rattle.definitions.specs.Truth.{Assign, Domain, any, block, every, over, set
 use Rattle.definitions.specs.Negation.{flip}
 use Rattle.definitions.proofs.Laws.Bools.{by_cases, clash, not_and, not_or, or_false_left, or_false_right, or_left, or_right, same_truth}
 use Rattle.definitions.proofs.Laws.Sets.{same_eq}
+use Rattle.definitions.specs.Laws.Blocks.{Off}
 
 pub over_not : {A : Type 0} (q : Quant) (p : A → Bool) (l : List A) → not (over q p l) ≡ over (flip q) (λ a. not (p a)) l
 unfolding every any
@@ -28,9 +29,6 @@ pub some_out : {A : Type 0} (p : A → Bool) (l : List A) → any p l ≡ true �
 unfolding any
 some_out p [] e = clash e refl
 some_out p (a ∷ l) e = by_cases (p a) (λ t. (a, t)) (λ f. some_out p l (rw f at e))
-
-abbrev pub Off : (D : Domain) → List Name → Assign D → Assign D → Type 0
-Off D vs σ ρ = (x : Name) → mem x vs ≡ false → σ x ≡ ρ x
 
 module _ (D : Domain) where
   pub block_not : (q : Quant) (vs : List Name) (k : Assign D → Bool) (ρ : Assign D)

@@ -13,7 +13,8 @@ use Rattle.definitions.specs.Order.{rel, same_as, Literal, pos, opp, Clause, cmp
 use Rattle.definitions.specs.Clauses.{product, constant, combine, opposite, distribute, clauses, literal_truth, clause_truth, set_truth}
 use Rattle.definitions.proofs.Laws.Bools.{clash, and_true_left, and_true_right}
 use Rattle.definitions.proofs.Laws.Order.{literal_orders, clause_orders}
-use Rattle.definitions.proofs.Laws.Sorted.{both, over_cons, over_append, over_map, sorted, over_set_of, set_of_sorted}
+use Rattle.definitions.specs.Laws.Sorted.{both, sorted}
+use Rattle.definitions.proofs.Laws.Sorted.{over_cons, over_append, over_map, over_set_of, set_of_sorted}
 use Rattle.definitions.proofs.Laws.Negation.{nnf_truth}
 use Rattle.definitions.specs.Laws.Shapes.{is_atom, and_or, negated, ready}
 use Rattle.definitions.proofs.Laws.Shapes.{nnf_ready}

@@ -2,21 +2,13 @@
 -- literals together. Nothing is counted that is not made, and sorting only merges.
 use Rattle.std.specs.Prelude.{◌≡◌, refl, List, [], ◌∷◌, ◌++◌, map, length}
 use Rattle.std.proofs.Common.{◌∙◌, ap, ap₂, arith, length-append}
-use Prim.Native.Nat.{ℕ, ◌+◌, ◌*◌, ◌≤◌, Ordering}
+use Prim.Native.Nat.{◌+◌, ◌*◌, ◌≤◌, Ordering}
 use Rattle.std.proofs.lemmas.List.{length-map}
 use Rattle.definitions.specs.Syntax.{Op, and, or, imp, iff, Quant, all, ex, Formula, top, bot, pred, eq, neg, bin, blk}
 use Rattle.definitions.specs.Order.{Clause, cmp_literal, cmp_clause, place, insert, set_of}
-use Rattle.definitions.specs.Clauses.{product, combine, opposite, distribute, clauses, Raw, raw_of, added, multiplied, raw_combine, raw_opposite, raw}
+use Rattle.definitions.specs.Clauses.{product, combine, opposite, distribute, clauses, raw_of, added, multiplied, raw_combine, raw_opposite, raw}
 use Rattle.definitions.proofs.Laws.Sorted.{set_of_length}
-
--- how many literals the clauses have together
-unfoldable pub total : List Clause → ℕ
-total [] = 0
-total (c ∷ cs) = length c + total cs
-
--- the counts of given clauses
-abbrev pub counted : List Clause → Raw
-counted cs = raw_of (length cs) (total cs)
+use Rattle.definitions.specs.Laws.Counts.{counted, total}
 
 total_append : (a b : List Clause) → total (a ++ b) ≡ total a + total b
 unfolding total

@@ -1,38 +1,29 @@
 -- Demand 3: wherever a form is given, in every finite nonempty structure and under every assignment, it stands to the rule as it should.
-use Rattle.std.specs.Prelude.{◌≡◌, refl, true, not, List, ◌↔◌}
+use Rattle.std.specs.Prelude.{◌≡◌, refl, true, not}
 use Rattle.std.proofs.Common.{sym, ◌∙◌, ap}
 use Rattle.definitions.specs.Bytes.{Bytes}
 use Rattle.definitions.specs.Syntax.{Formula, Quant, all, ex}
 use Rattle.definitions.specs.Limits.{Limits}
 use Rattle.definitions.specs.RuleText.{written}
 use Rattle.definitions.specs.Reading.{read, tree}
-use Rattle.definitions.specs.Truth.{Assign, Domain, Meaning, every, truth}
+use Rattle.definitions.specs.Truth.{truth}
 use Rattle.definitions.specs.Simplify.{simplify}
 use Rattle.definitions.specs.Negation.{nnf}
 use Rattle.definitions.specs.Prenex.{Prenex, all_only, formula, is_prenex_form, is_skolem, no_block, parted, pnf}
-use Rattle.definitions.specs.Skolem.{AlikeBut, Symbol, hash_free, skolem_formula, zero_counts}
-use Rattle.definitions.specs.Order.{Clause, cmp_clause, cmp_literal}
-use Rattle.definitions.specs.Clauses.{clauses, listing, set_truth}
+use Rattle.definitions.specs.Skolem.{hash_free, skolem_formula, zero_counts}
+use Rattle.definitions.specs.Clauses.{clauses}
 use Rattle.definitions.specs.Convert.{as_clauses, convert, convert_tree, given, snf_of_prenex, pnf_to_snf, refused_if, snf, snf_to_cnf, snf_to_dnf, through_skolem, to_cnf, to_dnf, to_nnf, to_pnf, to_simplified, to_snf}
 use Rattle.definitions.proofs.Laws.Bools.{and_true_left}
 use Rattle.definitions.proofs.Laws.Simplify.{simplify_truth}
 use Rattle.definitions.proofs.Laws.Negation.{nnf_truth}
 use Rattle.definitions.proofs.Laws.Prenex.{outward_no_block, pnf_truth}
-use Rattle.definitions.proofs.Laws.OneBlock.{New}
-use Rattle.definitions.proofs.Laws.Skolem.{FreshFor, drawn_fresh, skolem_iff, skolem_one}
+use Rattle.definitions.specs.Laws.OneBlock.{New}
+use Rattle.definitions.proofs.Laws.Skolem.{drawn_fresh, skolem_iff, skolem_one}
 use Rattle.definitions.proofs.Laws.Hashes.{hash_free_new, pnf_new}
-use Rattle.definitions.proofs.Laws.Sorted.{sorted}
 use Rattle.definitions.proofs.Laws.Shapes.{close_parted, parted_close, skolemise_no_block, snf_skolem}
 use Rattle.definitions.proofs.Laws.Clauses.{clauses_sorted, each_clause_sorted, matrix_truth}
 use Rattle.definitions.proofs.Laws.Given.{clauses_passed, clean_passed, given_inj, prenex_passed, shape_passed, skolem_passed, stage_passed, was_read}
-
--- The text s is a form's with the truth value of the rule that stands in the text.
-pub record SameTruth (L : Limits) (text s : Bytes) : Type 1 where
-  pub rule : Formula
-  pub form : Formula
-  pub reads : read L text ≡ tree rule
-  pub writes : s ≡ written form
-  pub same_truth : (D : Domain) (M : Meaning D) (ρ : Assign D) → truth D M form ρ ≡ truth D M rule ρ
+use Rattle.definitions.specs.Laws.Demand.{ClauseTruth, SameTruth, SkolemTruth}
 
 pub simplify_given : (L : Limits) (text s : Bytes) → convert L to_simplified text ≡ given s → SameTruth L text s
 unfolding convert_tree
@@ -54,21 +45,6 @@ pnf_given L text s e =
     let (f, r, c) = was_read L to_pnf text s e in
     let (p, g) = prenex_passed L f (given (written (formula (pnf f)))) s c in
     record { rule = f; form = formula (pnf f); reads = r; writes = sym (given_inj g); same_truth = λ D M ρ. pnf_truth D M f ρ }
-
--- The text s is the Skolem form of the rule's prenex form: the prenex form holds exactly when some meaning for the symbols drawn, which
--- the rule has not, the rest unchanged, makes the Skolem form hold; and one such meaning does for all assignments at once.
-pub record SkolemTruth (L : Limits) (prenex : Formula → Formula) (text s : Bytes) : Type 1 where
-  pub rule : Formula
-  pub form : Formula
-  pub drawn : List Symbol
-  pub reads : read L text ≡ tree rule
-  pub writes : s ≡ written form
-  pub same_truth : (D : Domain) (M : Meaning D) (ρ : Assign D) → truth D M (prenex rule) ρ ≡ truth D M rule ρ
-  pub new : FreshFor rule drawn
-  pub exactly : (D : Domain) (M : Meaning D) (ρ : Assign D)
-      → (truth D M (prenex rule) ρ ≡ true) ↔ ((M' : Meaning D) × AlikeBut D drawn M M' × (truth D M' form ρ ≡ true))
-  pub one_meaning : (D : Domain) (M : Meaning D)
-      → (M' : Meaning D) × AlikeBut D drawn M M' × ((ρ : Assign D) → truth D M' form ρ ≡ truth D M (prenex rule) ρ)
 
 pub snf_given : (L : Limits) (text s : Bytes) → convert L to_snf text ≡ given s → SkolemTruth L (λ f. formula (pnf f)) text s
 unfolding convert_tree pnf
@@ -108,17 +84,6 @@ pnf_snf_given L text s e =
       exactly = λ D M ρ. rw (close_parted f) at (skolem_iff D M (parted f) zero_counts ρ shape new);
       one_meaning = λ D M. rw (close_parted f) at (skolem_one D M (parted f) zero_counts shape new);
     }
-
--- The text s lists a clause set with the truth value of the matrix of the rule's Skolem form; it is strictly sorted, and so is each clause.
-pub record ClauseTruth (L : Limits) (q : Quant) (skolem-form : Formula → Formula) (text s : Bytes) : Type 1 where
-  pub rule : Formula
-  pub set : List Clause
-  pub reads : read L text ≡ tree rule
-  pub writes : s ≡ listing set
-  pub is_skolem_form : is_skolem (skolem-form rule) ≡ true
-  pub same_truth : (D : Domain) (M : Meaning D) (ρ : Assign D) → set_truth D M ρ q set ≡ truth D M (parted (skolem-form rule)).matrix ρ
-  pub in_order : sorted cmp_clause set ≡ true
-  pub each_in_order : every (sorted cmp_literal) set ≡ true
 
 set_given : (L : Limits) (q : Quant) (form : Formula → Formula) (text s : Bytes) (f m : Formula) → read L text ≡ tree f → is_skolem (form f) ≡ true
     → m ≡ (parted (form f)).matrix → as_clauses L q m ≡ given s → ClauseTruth L q form text s

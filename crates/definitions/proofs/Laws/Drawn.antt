@@ -10,17 +10,13 @@ use Rattle.definitions.specs.Skolem.{among, constant_name, constant_symbol, draw
 use Rattle.definitions.proofs.Laws.Bools.{by_cases, clash, or_false_left, or_false_right}
 use Rattle.definitions.proofs.Laws.Sets.{same_eq, same_refl}
 use Rattle.definitions.proofs.Laws.Decimal.{decimal_inj}
+use Rattle.definitions.specs.Laws.Drawn.{last}
 
 pub constant_inj : (j k : ℕ) → constant_name j ≡ constant_name k → j ≡ k
 constant_inj j k e = decimal_inj j k (ap (λ l. tail (tail l)) e)
 
 pub function_inj : (j k : ℕ) → function_name j ≡ function_name k → j ≡ k
 function_inj j k e = decimal_inj j k (ap (λ l. tail (tail l)) e)
-
--- The term that a variable of a block gets: that of the last place where it stands.
-unfoldable pub last : List Name → ℕ → Name → ℕ
-last [] k x = k
-last (v ∷ vs) k x = cond (mem x vs) (last vs (suc k) x) k
 
 pub put_else : (vs : List Name) (t : ℕ → Term) (k : ℕ) (x : Name) → mem x vs ≡ false → put vs t k x ≡ var x
 unfolding put mem

@@ -9,9 +9,7 @@ use Rattle.definitions.specs.Bytes.{same}
 use Rattle.definitions.specs.Syntax.{Formula, all, blk, eq, ex, neg, var}
 use Rattle.definitions.specs.Truth.{Domain, Meaning, any, block, every, truth, val}
 use Rattle.definitions.proofs.Laws.Bools.{T→, by_cases, clash, →T}
-
-abbrev pub Below : ℕ → Type 0
-Below n = (i : ℕ) × (ltb i n ≡ true)
+use Rattle.definitions.specs.Laws.Finite.{Below}
 
 pub below_path : (n : ℕ) (a b : Below n) → a.0 ≡ b.0 → a ≡ b
 below_path n a b e = Σ_prop_path (λ i. Bool-set (ltb i n) true) e

@@ -1,5 +1,5 @@
 -- The truth value of a formula depends on the values of its free variables only.
-use Rattle.std.specs.Prelude.{◌≡◌, Bool, true, false, cond, List, [], ◌∷◌}
+use Rattle.std.specs.Prelude.{◌≡◌, Bool, true, false, List, [], ◌∷◌}
 use Rattle.std.proofs.Math.Path.{refl, ap, ap₂}
 use Rattle.std.proofs.Common.{sym, ◌∙◌}
 use Rattle.std.proofs.Math.Bool.{not}
@@ -9,17 +9,9 @@ use Rattle.definitions.specs.Reading.{agree}
 use Rattle.definitions.specs.Truth.{Assign, Domain, Meaning, block, join, truth, val, vals}
 use Rattle.definitions.proofs.Laws.Bools.{by_cases, or_left, or_right}
 use Rattle.definitions.proofs.Laws.Sets.{mem_filter, mem_head, mem_union}
-use Rattle.definitions.proofs.Laws.Blocks.{Match, Off, block_same}
-
-abbrev pub Agree : (D : Domain) → List Name → Assign D → Assign D → Type 0
-Agree D l ρ σ = (x : Name) → mem x l ≡ true → ρ x ≡ σ x
-
--- what reads only the variables of a list
-abbrev pub Reads : (D : Domain) → List Name → (Assign D → Bool) → Type 0
-Reads D l k = (ρ σ : Assign D) → Agree D l ρ σ → k ρ ≡ k σ
-
-abbrev pub mix : (D : Domain) → List Name → Assign D → Assign D → Assign D
-mix D vs σ ρ = λ x. cond (mem x vs) (σ x) (ρ x)
+use Rattle.definitions.specs.Laws.Blocks.{Off}
+use Rattle.definitions.proofs.Laws.Blocks.{Match, block_same}
+use Rattle.definitions.specs.Laws.Free.{Agree, Reads, mix}
 
 module _ (D : Domain) where
   pub mix_off : (vs : List Name) (σ ρ : Assign D) → Off D vs (mix D vs σ ρ) ρ

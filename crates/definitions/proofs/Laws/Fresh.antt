@@ -1,15 +1,17 @@
 -- A new name is none of those taken; a block with its variables renamed says the same.
-use Rattle.std.specs.Prelude.{◌≡◌, refl, Bool, true, false, ◌||◌, cond, List, [], ◌∷◌, ℕ, zero, suc, ◌+◌, ◌≤◌, ◌<◌, length}
+use Rattle.std.specs.Prelude.{◌≡◌, refl, Bool, true, false, ◌||◌, List, [], ◌∷◌, ℕ, zero, suc, ◌+◌, ◌≤◌, ◌<◌, length}
 use Rattle.std.proofs.Common.{sym, ◌∙◌, ap, arith, length-append}
 use Rattle.definitions.specs.Bytes.{same}
 use Rattle.definitions.specs.Syntax.{Name, Quant}
 use Rattle.definitions.specs.Names.{mem}
 use Rattle.definitions.specs.Truth.{Assign, Domain, block}
-use Rattle.definitions.specs.Prenex.{Pairs, fresh, fresh_from, longest, news, next, none, olds, pair, renames, ticked, to}
+use Rattle.definitions.specs.Prenex.{Pairs, fresh, fresh_from, longest, news, next, olds, renames, ticked, to}
 use Rattle.definitions.proofs.Laws.Bools.{by_cases, clash, or_false_left, or_false_right, or_left, or_right}
 use Rattle.definitions.proofs.Laws.Sets.{same_eq, same_refl}
 use Rattle.definitions.proofs.Laws.Blocks.{block_same}
-use Rattle.definitions.proofs.Laws.Free.{Reads, mix, mix_off}
+use Rattle.definitions.specs.Laws.Free.{Reads, mix}
+use Rattle.definitions.proofs.Laws.Free.{mix_off}
+use Rattle.definitions.specs.Laws.Fresh.{In, from}
 
 mem_longest : (x : Name) (l : List Name) → mem x l ≡ true → length x ≤ longest l
 unfolding mem longest
@@ -30,13 +32,6 @@ fresh_from_new (suc k) used x h =
 pub fresh_new : (used : List Name) (x : Name) → mem (fresh used x) used ≡ false
 unfolding fresh
 fresh_new used x = fresh_from_new (suc (longest used)) used x (omega arith)
-
-unfoldable pub from : Pairs → Name → Name
-from none y = y
-from (pair v w ps) y = cond (same y w) v (from ps y)
-
-abbrev pub In : List Name → List Name → Type 0
-In a b = (x : Name) → mem x a ≡ true → mem x b ≡ true
 
 in_tail : (w : Name) (v : Name) (vs used : List Name) → In (v ∷ vs) used → In vs (w ∷ used)
 unfolding mem

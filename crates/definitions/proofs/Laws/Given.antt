@@ -11,6 +11,7 @@ use Rattle.definitions.specs.Prenex.{formula, pnf}
 use Rattle.definitions.specs.Skolem.{hash_free, skolem_formula}
 use Rattle.definitions.specs.Clauses.{clauses, listing, raw}
 use Rattle.definitions.specs.Convert.{Conversion, Result, as_clauses, convert, convert_reading, convert_tree, given, refused, refused_if, snf, stage, through_prenex, through_skolem, too_large, too_long, too_many}
+use Rattle.definitions.specs.Laws.Given.{ClausesPassed, Passed, Prenexed, SkolemPassed}
 
 pub given_inj : {a b : Bytes} → given a ≡ given b → a ≡ b
 given_inj e = cc
@@ -22,11 +23,6 @@ never_given e = let z : ◌≡◌ {A = ℕ} 0 1 = cc in omega arith
 pub not_refused : (b : Bool) (n p : ℕ) (r : Result) (s : Bytes) → refused_if b n p r ≡ given s → (b ≡ false) × (r ≡ given s)
 not_refused true n p r s e = absurd (never_given e)
 not_refused false n p r s e = (refl, e)
-
--- what a stage's result keeps to
-pub record Passed (L : Limits) (f : Formula) : Type 0 where
-  pub small : too_large L f ≡ false
-  pub short : too_long L f ≡ false
 
 pub stage_passed : (L : Limits) (k : ℕ) (f : Formula) (r : Result) (s : Bytes) → stage L k f r ≡ given s → Passed L f × (r ≡ given s)
 stage_passed L k f r s e =
@@ -47,20 +43,10 @@ not_not : (b : Bool) → not b ≡ false → b ≡ true
 not_not true e = refl
 not_not false e = sym e
 
--- What stages 1 and 2 pass, and 1 to 3 with refusal 5 before them; and what the last two give.
-pub record Prenexed (L : Limits) (f : Formula) : Type 0 where
-  pub simple : Passed L (simplify f)
-  pub prenex : Passed L (formula (pnf f))
-
 pub prenex_passed : (L : Limits) (f : Formula) (r : Result) (s : Bytes) → through_prenex L f r ≡ given s → Prenexed L f × (r ≡ given s)
 prenex_passed L f r s e =
     let (a, d) = stage_passed L 1 (simplify f) (stage L 2 (formula (pnf f)) r) s e in
     let (b, c) = stage_passed L 2 (formula (pnf f)) r s d in (record { simple = a; prenex = b }, c)
-
-pub record SkolemPassed (L : Limits) (f : Formula) : Type 0 where
-  pub clean : hash_free f ≡ true
-  pub prenexed : Prenexed L f
-  pub skolem : Passed L (skolem_formula (snf f))
 
 pub skolem_passed : (L : Limits) (f : Formula) (r : Result) (s : Bytes) → through_skolem L f r ≡ given s → SkolemPassed L f × (r ≡ given s)
 skolem_passed L f r s e =
@@ -68,11 +54,6 @@ skolem_passed L f r s e =
     let (b, g) = prenex_passed L f (stage L 3 (skolem_formula (snf f)) r) s d in
     let (c, h) = stage_passed L 3 (skolem_formula (snf f)) r s g in
     (record { clean = not_not (hash_free f) a; prenexed = b; skolem = c }, h)
-
-pub record ClausesPassed (L : Limits) (q : Quant) (m : Formula) (s : Bytes) : Type 0 where
-  pub negated : Passed L (nnf m)
-  pub few : too_many L (raw q (nnf m)) ≡ false
-  pub listed : s ≡ listing (clauses q (nnf m))
 
 pub clauses_passed : (L : Limits) (q : Quant) (m : Formula) (s : Bytes) → as_clauses L q m ≡ given s → ClausesPassed L q m s
 unfolding as_clauses

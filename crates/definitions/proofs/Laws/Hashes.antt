@@ -13,7 +13,7 @@ use Rattle.definitions.specs.Skolem.{Counts, constant_name, function_name, holds
 use Rattle.definitions.proofs.Laws.Bools.{and_true_left, and_true_right, by_cases, clash, or_false_left, or_false_right}
 use Rattle.definitions.proofs.Laws.Sets.{mem_append, same_eq}
 use Rattle.definitions.proofs.Laws.Symbols.{sub_syms}
-use Rattle.definitions.proofs.Laws.OneBlock.{New}
+use Rattle.definitions.specs.Laws.OneBlock.{New}
 
 module _ (k : Sort) (n : Name) where
   abbrev Lacks : Formula → Type 0

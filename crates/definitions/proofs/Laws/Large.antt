@@ -12,34 +12,7 @@ use Rattle.definitions.specs.RuleText.{Node, lines, term_nodes, terms_nodes, nod
 use Rattle.definitions.specs.Reading.{node_weight, is_term, Due, some_due, parts, agree, large_line, scan, large, read}
 use Rattle.definitions.specs.Laws.Within.{AllGood}
 use Rattle.definitions.proofs.Laws.Scanned.{scan_line}
-
--- the depth of each node, parent first, where that of the root is D
-unfoldable mutual
-  pub term_depths : ℕ → Term → List ℕ
-  term_depths D (var x) = D ∷ []
-  term_depths D (con c) = D ∷ []
-  term_depths D (app f ts) = D ∷ terms_depths (suc D) ts
-
-  pub terms_depths : ℕ → Terms → List ℕ
-  terms_depths D nil = []
-  terms_depths D (cons t ts) = term_depths D t ++ terms_depths D ts
-
-unfoldable pub depths : ℕ → Formula → List ℕ
-depths D top = D ∷ []
-depths D bot = D ∷ []
-depths D (pred p ts) = D ∷ terms_depths (suc D) ts
-depths D (eq t u) = D ∷ (term_depths (suc D) t ++ term_depths (suc D) u)
-depths D (neg f) = D ∷ depths (suc D) f
-depths D (bin o f g) = D ∷ (depths (suc D) f ++ depths (suc D) g)
-depths D (blk q vs f) = D ∷ depths (suc D) f
-
-unfoldable pub nodes_weight : List Node → ℕ
-nodes_weight [] = 0
-nodes_weight (n ∷ l) = node_weight n + nodes_weight l
-
-abbrev pub AllAtMost : ℕ → List ℕ → Type 0
-AllAtMost z [] = Unit {0}
-AllAtMost z (D ∷ a) = (D ≤ z) × AllAtMost z a
+use Rattle.definitions.specs.Laws.Large.{AllAtMost, Cut, depths, nodes_weight, term_depths, terms_depths}
 
 -- nodes at their depths go through, one after another, whatever the limits
 abbrev Walks : List Node → List ℕ → List Due → Type 0
@@ -101,18 +74,6 @@ module _ (L : Limits) (n : Node) (m : List Node) (D : ℕ) (b : List ℕ) where
       let ih = passing l a (parts y (suc E) ++ due) (w + node_weight y) (suc k) g.1 h.2 (omega arith) d.1 (omega arith) (rw z at o) in
       scan_line L y (lines (l ++ (n ∷ m))) (x ∷ due) w k g.0
       ∙ rw (h.0, h.1, le-leb E L.depth d.0, le-leb (w + node_weight y) L.weight (omega arith), ih) (ap large_line (omega arith))
-
--- a tree with good lines, cut before its node n at depth D; before it neither the depth nor the weight has passed its limit
-pub record Cut (L : Limits) (f : Formula) (l : List Node) (n : Node) (D : ℕ) : Type 0 where
-  pub behind : List Node
-  pub depths_before : List ℕ
-  pub depths_behind : List ℕ
-  pub cut : nodes f ≡ l ++ (n ∷ behind)
-  pub depths_cut : depths 1 f ≡ depths_before ++ (D ∷ depths_behind)
-  pub alike : length depths_before ≡ length l
-  pub good : AllGood L (nodes f)
-  pub shallow : AllAtMost L.depth depths_before
-  pub light : nodes_weight l ≤ L.weight
 
 module _ (L : Limits) (f : Formula) (l : List Node) (n : Node) (D : ℕ) (c : Cut L f l n D) where
   passed : (leb D L.depth && leb (nodes_weight l + node_weight n) L.weight) ≡ false → read L (written f) ≡ large (suc (length l))

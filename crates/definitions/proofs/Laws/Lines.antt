@@ -17,8 +17,10 @@ use Rattle.definitions.specs.Reading.{Kind, alone, blocks, applied, symbol, look
 use Rattle.definitions.proofs.Laws.Bools.{by_cases, and_true_left, and_true_right}
 use Rattle.definitions.proofs.Laws.Sets.{same_eq}
 use Rattle.definitions.proofs.Laws.Decimal.{number_decimal, decimal_of_number}
-use Rattle.definitions.proofs.Laws.Pieces.{joined, Clear, AllClear, join_split, split_joined, clear_append, letter_clear, name_clear, decimal_clear}
+use Rattle.definitions.specs.Laws.Pieces.{joined, Clear, AllClear}
+use Rattle.definitions.proofs.Laws.Pieces.{join_split, split_joined, clear_append, letter_clear, name_clear, decimal_clear}
 use Rattle.definitions.specs.Laws.Within.{Allowed, Good}
+use Rattle.definitions.specs.Laws.Lines.{Spelled}
 
 infixr 20 ◌then◌
 -- keywords hold letters alone
@@ -56,12 +58,6 @@ behind_each_clear : (b c : ℕ) → eqb c b ≡ false → (l : List Bytes) → A
 unfolding behind_each
 behind_each_clear b c d [] h = tt
 behind_each_clear b c d (f ∷ l) h = (d, clear_append b f (behind_each c l) h.0 (behind_each_clear b c d l h.1))
-
--- what a keyword w with the fields l behind it has to be where it gives the node n
-pub record Spelled (L : Limits) (w : Bytes) (l : List Bytes) (n : Node) : Type 0 where
-  pub word : keyword n ≡ w
-  pub fields_are : fields n ≡ l
-  pub allowed : Allowed L n
 
 -- an entry of the table is right: whatever fields give a node with it, the node is spelled so
 abbrev Right : Limits → Bytes × Kind → Type 0

@@ -10,8 +10,10 @@ use Rattle.definitions.specs.Truth.{every}
 use Rattle.definitions.specs.Order.{Atom, rel, same_as, Literal, pos, opp, Clause}
 use Rattle.definitions.specs.Clauses.{atom_formula, literal_word, literals_text, clause_word, clauses_word, counted_line, clauses_text, listing}
 use Rattle.definitions.proofs.Laws.Decimal.{decimal_inj}
-use Rattle.definitions.proofs.Laws.Pieces.{joined}
-use Rattle.definitions.proofs.Laws.Rows.{Row, rows_text, Plain, no_field, field, PlainRows, no_row, plain_row, rows_told, plain_word, plain_number}
+use Rattle.definitions.specs.Laws.Pieces.{joined}
+use Rattle.definitions.specs.Laws.Rows.{Row, rows_text, no_field, field, PlainRows, no_row, plain_row}
+use Rattle.definitions.proofs.Laws.Rows.{rows_told, plain_word, plain_number}
+use Rattle.definitions.specs.Laws.Listing.{PlainAtom, PlainClause, PlainClauses, PlainTerm, PlainTerms}
 
 -- the rows of each thing, before given rows
 abbrev row : Node → Row
@@ -174,30 +176,6 @@ set_text (c ∷ cs) =
 listing_text : (cs : List Clause) → rows_text (listing_rows cs) ≡ listing cs
 unfolding rows_text listing
 listing_text cs = counted_text clauses_word (rows_text (clauses_rows cs)) (length cs) ∙ rw (set_text cs)
-
--- No name in terms, atoms, literals or clauses holds a tab or a line feed.
-unfoldable mutual
-  pub PlainTerm : Term → Type 0
-  PlainTerm (var x) = Plain x
-  PlainTerm (con c) = Plain c
-  PlainTerm (app f ts) = Plain f × PlainTerms ts
-
-  pub PlainTerms : Terms → Type 0
-  PlainTerms nil = Unit {0}
-  PlainTerms (cons t ts) = PlainTerm t × PlainTerms ts
-
-unfoldable pub PlainAtom : Atom → Type 0
-PlainAtom (rel p ts) = Plain p × PlainTerms ts
-PlainAtom (same_as t u) = PlainTerm t × PlainTerm u
-
-unfoldable pub PlainClause : Clause → Type 0
-PlainClause [] = Unit {0}
-PlainClause (pos a ∷ c) = PlainAtom a × PlainClause c
-PlainClause (opp a ∷ c) = PlainAtom a × PlainClause c
-
-unfoldable pub PlainClauses : List Clause → Type 0
-PlainClauses [] = Unit {0}
-PlainClauses (c ∷ cs) = PlainClause c × PlainClauses cs
 
 -- then the rows are plain
 mutual

@@ -8,10 +8,7 @@ use Rattle.definitions.specs.Names.{filter, free, mem, term_vars, terms_vars, un
 use Rattle.definitions.specs.Prenex.{Prefix, add, close, flips, more, outward, plain, pull, pull_right}
 use Rattle.definitions.proofs.Laws.Bools.{and_true_left, and_true_right, by_cases, clash, or_left, or_right}
 use Rattle.definitions.proofs.Laws.Sets.{mem_append, mem_filter, same_refl}
-
-unfoldable pub once : List Name → Bool
-once [] = true
-once (x ∷ l) = not (mem x l) && once l
+use Rattle.definitions.specs.Laws.Once.{flat, once}
 
 pub once_filter : (p : Name → Bool) (l : List Name) → once l ≡ true → once (filter p l) ≡ true
 unfolding once filter
@@ -62,19 +59,6 @@ free_once (eq t u) = once_union (term_vars t) (term_vars u) (once_term t) (once_
 free_once (neg f) = free_once f
 free_once (bin o f g) = once_union (free f) (free g) (free_once f) (free_once g)
 free_once (blk q vs f) = once_filter (λ y. not (mem y vs)) (free f) (free_once f)
-
--- no block and no iff
-unfoldable pub flat : Formula → Bool
-flat top = true
-flat bot = true
-flat (pred p ts) = true
-flat (eq t u) = true
-flat (neg f) = flat f
-flat (bin and f g) = flat f && flat g
-flat (bin or f g) = flat f && flat g
-flat (bin imp f g) = flat f && flat g
-flat (bin iff f g) = false
-flat (blk q vs f) = false
 
 outward_flat : (f : Formula) → flat f ≡ true → outward f ≡ record { prefix = plain; matrix = f }
 unfolding flat outward pull pull_right flips

@@ -1,7 +1,7 @@
 -- What a call promises leaves one answer: two outcomes that meet the promise are the same; and the versions that document 01 shuts out
 -- do not meet it: the one that refuses everything, the one with a constant result, the one that writes nothing, and the one that goes to
 -- prenex and copies it onward.
-use Rattle.std.specs.Prelude.{◌≡◌, refl, false, [], ◌∷◌, ℕ, length, replicate}
+use Rattle.std.specs.Prelude.{◌≡◌, refl, false, [], ◌∷◌, ℕ, replicate}
 use Rattle.std.proofs.Common.{sym, ◌∙◌, ap, true≢false}
 use Rattle.definitions.specs.Bytes.{Bytes, begins, behind_each, decimal, digits, number, same, skip, split, value}
 use Rattle.definitions.specs.Syntax.{Formula, blk, bot, con, cons, count, depth, ex, nil, pred, term_depth, term_weight, terms_depth, terms_weight, top, var, weight}
@@ -16,21 +16,10 @@ use Rattle.definitions.specs.Prenex.{all_only, close, flips, fresh, fresh_from, 
 use Rattle.definitions.specs.Skolem.{among, as_vars, binders, constant_name, drawn_symbols, holds_hash, hash_free, put, skolem, skolemise}
 use Rattle.definitions.specs.Order.{cmp_atom, cmp_list, cmp_literal, cmp_term, cmp_terms, insert, pos, rel, set_of}
 use Rattle.definitions.specs.Clauses.{clauses, clauses_text, distribute, listing, literals_text, product, raw}
-use Rattle.definitions.specs.Convert.{Answer, Conversion, Result, answer, as_clauses, convert, convert_tree, given, out_after, pnf_to_snf, refused, snf_to_cnf, snf_to_dnf, to_cnf, to_dnf, to_nnf, to_pnf, to_simplified, to_snf, too_large, too_long, too_many, work_after}
+use Rattle.definitions.specs.Convert.{Conversion, Result, answer, as_clauses, convert, convert_tree, given, out_after, pnf_to_snf, refused, snf_to_cnf, snf_to_dnf, to_cnf, to_dnf, to_nnf, to_pnf, to_simplified, to_snf, too_large, too_long, too_many, work_after}
 use Rattle.definitions.proofs.Laws.Sets.{same_refl}
 use Rattle.definitions.proofs.Laws.Given.{given_inj, never_given}
-
--- what a call leaves behind: its answer, and what the two lent buffers hold
-pub record Outcome : Type 0 where
-  pub answer : Answer
-  pub out : Bytes
-  pub work : Bytes
-
--- the promise of the nine conversions
-pub record Meets (L : Limits) (c : Conversion) (text out work : Bytes) (r : Outcome) : Type 0 where
-  pub answers : r.answer ≡ answer L c text (length out) (length work)
-  pub lays : r.out ≡ out_after L c text out (length work)
-  pub clears : r.work ≡ work_after L work
+use Rattle.definitions.specs.Laws.OneAnswer.{Meets, Outcome}
 
 pub one_answer : (L : Limits) (c : Conversion) (text out work : Bytes) (r r' : Outcome) → Meets L c text out work r → Meets L c text out work r' → r ≡ r'
 one_answer L c text out work r r' m m' =

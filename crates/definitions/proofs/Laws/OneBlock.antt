@@ -10,16 +10,20 @@ use Rattle.definitions.specs.Bytes.{same}
 use Rattle.definitions.specs.Syntax.{Formula, Name, ex, var}
 use Rattle.definitions.specs.Names.{Sort, bound, constants, free, functions, mem, syms, term_syms, term_vars, terms_syms, terms_vars, without}
 use Rattle.definitions.specs.Truth.{Assign, Domain, Meaning, block, truth, val, vals}
-use Rattle.definitions.specs.Prenex.{Subst, sub}
-use Rattle.definitions.specs.Skolem.{AlikeBut, Counts, Symbol, among, as_vars, constant_name, constant_symbol, counts_after, drawn_symbols, first_number, function_name, function_symbol, put, same_symbol, skolem_term}
+use Rattle.definitions.specs.Prenex.{sub}
+use Rattle.definitions.specs.Skolem.{AlikeBut, Counts, Symbol, among, as_vars, constant_name, constant_symbol, counts_after, drawn_symbols, first_number, function_name, function_symbol, same_symbol, skolem_term}
 use Rattle.definitions.proofs.Laws.Bools.{T→, by_cases, clash, or_false_left, or_false_right}
 use Rattle.definitions.proofs.Laws.Sets.{mem_union, same_eq}
-use Rattle.definitions.proofs.Laws.Blocks.{Off, ex_in, ex_out}
+use Rattle.definitions.specs.Laws.Blocks.{Off}
+use Rattle.definitions.proofs.Laws.Blocks.{ex_in, ex_out}
 use Rattle.definitions.proofs.Laws.Free.{block_reads, truth_agree}
-use Rattle.definitions.proofs.Laws.Substitution.{Clear, mem_var, sub_truth}
-use Rattle.definitions.proofs.Laws.Fresh.{In}
+use Rattle.definitions.specs.Laws.Substitution.{Clear}
+use Rattle.definitions.proofs.Laws.Substitution.{mem_var, sub_truth}
+use Rattle.definitions.specs.Laws.Fresh.{In}
 use Rattle.definitions.proofs.Laws.Symbols.{sub_free, sub_syms, truth_alike}
-use Rattle.definitions.proofs.Laws.Drawn.{constant_inj, constants_high, constants_kept, constants_none, differ, function_inj, functions_high, functions_kept, functions_none, last, last_high, patch, patch_at, put_at, put_else}
+use Rattle.definitions.specs.Laws.Drawn.{last}
+use Rattle.definitions.proofs.Laws.Drawn.{constant_inj, constants_high, constants_kept, constants_none, differ, function_inj, functions_high, functions_kept, functions_none, last_high, patch, patch_at, put_at, put_else}
+use Rattle.definitions.specs.Laws.OneBlock.{High, New, Rises, block_put}
 
 as_vars_vars : (l : List Name) (x : Name) → mem x (terms_vars (as_vars l)) ≡ mem x l
 unfolding as_vars terms_vars term_vars mem
@@ -52,19 +56,9 @@ module _ (D : Domain) where
       (λ t. let (σ, off, h) = ex_out D vs k ρ t in (σ, off, h ∙ sym t))
       (λ n. (ρ, (λ x m. refl), by_cases (k ρ) (λ t. clash (ex_in D vs k ρ ρ (λ x m. refl) t) n) (λ e. e ∙ sym n)))
 
--- no symbol of the formula is one that may be drawn from the counts on
-unfoldable pub New : Counts → Formula → Type 0
-New k g =
-    ((j : ℕ) → k.constant ≤ j → mem (constant_name j) (syms constants g) ≡ false) × ((j : ℕ) → k.function ≤ j → mem (function_name j) (syms functions g) ≡ false)
-
 pub not_used : (nm : ℕ → Name) (k : ℕ) (l : List Name) → ((j : ℕ) → k ≤ j → mem (nm j) l ≡ false) → (n : Name) → mem n l ≡ true
     → (j : ℕ) → k ≤ j → same n (nm j) ≡ false
 not_used nm k l h n m j b = by_cases (same n (nm j)) (λ e. clash (ap (λ z. mem z l) (sym (same_eq n (nm j) e)) ∙ m) (h j b)) (λ e. e)
-
--- symbols with numbers from the counts on only
-pub record High (k : Counts) (l : List Symbol) : Type 0 where
-  pub on_con : (n : Name) → ((j : ℕ) → k.constant ≤ j → same n (constant_name j) ≡ false) → among (constant_symbol n) l ≡ false
-  pub on_fun : (n : Name) (m : ℕ) → ((j : ℕ) → k.function ≤ j → same n (function_name j) ≡ false) → among (function_symbol n m) l ≡ false
 
 pub alike_truth : (D : Domain) (k : Counts) (l : List Symbol) (M M' : Meaning D) (g : Formula) (ρ : Assign D) → High k l → New k g → AlikeBut D l M M'
     → truth D M' g ρ ≡ truth D M g ρ
@@ -96,10 +90,6 @@ block_high [] vs k = record
     { on_con = λ n h. constants_high [] vs k.constant n h; on_fun = λ n m h. functions_none vs k.constant n m }
 block_high (a ∷ l) vs k = record
     { on_con = λ n h. constants_none a l vs k.function n; on_fun = λ n m h. functions_high (a ∷ l) vs k.function n m h }
-
--- what an exists block puts in for its variables
-abbrev pub block_put : List Name → List Name → Counts → Subst
-block_put vs args k = put vs (skolem_term args) (first_number args k)
 
 as_vars_length : (D : Domain) (M : Meaning D) (ρ : Assign D) (l : List Name) → length (vals D M ρ (as_vars l)) ≡ length l
 unfolding vals as_vars
@@ -198,11 +188,6 @@ new_fun [] vs k y m j l = refl
 new_fun (a ∷ b) vs k y m j l =
     rw (as_vars_syms functions (a ∷ b)) (or-false (same (function_name j) (function_name (last vs k.function y)))
     ∙ differ function_name function_inj j (last vs k.function y) (omega (arith, last_high vs k.function y m)))
-
--- the counts rise
-pub record Rises (k k' : Counts) : Type 0 where
-  pub constant : k.constant ≤ k'.constant
-  pub function : k.function ≤ k'.function
 
 pub rises : (args : List Name) (n : ℕ) (k : Counts) → Rises k (counts_after args n k)
 rises [] n k = record { constant = omega arith; function = omega arith }

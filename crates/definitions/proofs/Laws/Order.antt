@@ -1,38 +1,15 @@
 -- The comparisons of names, terms, atoms, literals and clauses are total orders.
 -- What that is stands in the record `Orders`; lists have it from their elements, and a pair of things from its two parts (`lead`).
-use Rattle.std.specs.Prelude.{◌≡◌, Bool, true, false}
+use Rattle.std.specs.Prelude.{◌≡◌}
 use Rattle.std.proofs.Math.Path.{refl, ap₂}
 use Rattle.std.proofs.Common.{sym, ap, eqb-true}
 use mathlib.Core.List.{List, [], ◌∷◌}
 use Prim.Native.Nat.compare
 use Prim.Native.Nat.{ℕ, zero, suc, compare, Ordering}
-use Rattle.std.proofs.Math.Dec.{compare_is_eq}
 use Rattle.definitions.specs.Syntax.{Term, var, con, app, Terms, nil, cons}
 use Rattle.definitions.specs.Order.{Atom, rel, same_as, Literal, pos, opp, then, cmp_list, cmp_name, cmp_term, cmp_terms, cmp_atom, cmp_literal, cmp_clause}
 use Rattle.definitions.proofs.Laws.Bools.{clash}
-
-abbrev pub is_less : Ordering → Bool
-is_less Ordering.lt = true
-is_less Ordering.eq = false
-is_less Ordering.gt = false
-
-abbrev pub Equal : Ordering → Type 0
-Equal o = compare_is_eq o ≡ true
-
-abbrev pub Less : Ordering → Type 0
-Less o = is_less o ≡ true
-
--- the answer when the two sides change places
-abbrev pub swap : Ordering → Ordering
-swap Ordering.lt = Ordering.gt
-swap Ordering.eq = Ordering.eq
-swap Ordering.gt = Ordering.lt
-
--- equal only on equal things; the other way round with the sides; transitive
-pub record Orders {A : Type 0} (cmp : A → A → Ordering) : Type 0 where
-  pub equal : (x y : A) → Equal (cmp x y) → x ≡ y
-  pub back : (x y : A) → cmp y x ≡ swap (cmp x y)
-  pub trans : (x y z : A) → Less (cmp x y) → Less (cmp y z) → Less (cmp x z)
+use Rattle.definitions.specs.Laws.Order.{Equal, Less, Orders, is_less, swap}
 
 -- it follows that a thing is equal to itself
 pub itself : {A : Type 0} {cmp : A → A → Ordering} → Orders cmp → (x : A) → cmp x x ≡ Ordering.eq

@@ -10,32 +10,7 @@ use Rattle.definitions.specs.Negation.{flip}
 use Rattle.definitions.specs.Simplify.{simplify}
 use Rattle.definitions.specs.Prenex.{Subst, shade, term_sub, terms_sub, sub, Pairs, Prefix, plain, more, Prenex, close, formula, shades, apart, as_subst, news, renames, next, premise, pull_right, pull, merge, flips, outward, pnf}
 use Rattle.definitions.proofs.Laws.Bools.{by_cases}
-
--- a block: its quantifier, and how many variables it has
-pub record Block : Type 0 where
-  pub quantifier : Quant
-  pub variables : ℕ
-
-abbrev pub turned : Bool → Block → Block
-turned b k = record { quantifier = cond b (flip k.quantifier) k.quantifier; variables = k.variables }
-
--- the blocks of a formula under a sign, in reading order
-unfoldable pub blocks : Bool → Formula → List Block
-blocks s top = []
-blocks s bot = []
-blocks s (pred p ts) = []
-blocks s (eq t u) = []
-blocks s (neg f) = blocks (not s) f
-blocks s (bin and f g) = blocks s f ++ blocks s g
-blocks s (bin or f g) = blocks s f ++ blocks s g
-blocks s (bin imp f g) = blocks (not s) f ++ blocks s g
-blocks s (bin iff f g) = (blocks (not s) f ++ blocks s g) ++ (blocks (not s) g ++ blocks s f)
-blocks s (blk q vs f) = turned s (record { quantifier = q; variables = length vs }) ∷ blocks s f
-
--- the blocks of a prefix
-unfoldable pub prefix_blocks : Prefix → List Block
-prefix_blocks plain = []
-prefix_blocks (more q vs p) = record { quantifier = q; variables = length vs } ∷ prefix_blocks p
+use Rattle.definitions.specs.Laws.Outward.{Block, blocks, prefix_blocks, turned}
 
 -- renaming keeps the number of variables
 news_length : (vs away taken : List Name) → length (news (renames vs away taken)) ≡ length vs

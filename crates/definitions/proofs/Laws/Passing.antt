@@ -18,8 +18,9 @@ use Rattle.definitions.specs.Convert.{Result, refused_if, stage, too_large, too_
 use Rattle.definitions.proofs.Laws.Bools.{and_both, and_true_left, and_true_right, by_cases, clash, or_left, or_right}
 use Rattle.definitions.proofs.Laws.Sets.{mem_filter, same_eq, same_refl}
 use Rattle.definitions.specs.Laws.Within.{AllGood, Within}
-use Rattle.definitions.proofs.Laws.Fresh.{In}
-use Rattle.definitions.proofs.Laws.Once.{free_once, once, once_filter}
+use Rattle.definitions.specs.Laws.Fresh.{In}
+use Rattle.definitions.specs.Laws.Once.{once}
+use Rattle.definitions.proofs.Laws.Once.{free_once, once_filter}
 use Rattle.definitions.specs.Laws.Kept.{each, term_each, terms_each}
 use Rattle.definitions.specs.Laws.Passing.{short, few}
 use Rattle.definitions.proofs.Laws.Kept.{nnf_each, simplify_each, variables_each, widest_most}

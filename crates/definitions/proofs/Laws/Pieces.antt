@@ -10,20 +10,7 @@ use Rattle.definitions.specs.Bytes.{Bytes, null, split, behind_each, skip, digit
 use Rattle.definitions.specs.Limits.{Limits}
 use Rattle.definitions.specs.RuleText.{letter, digit, word, hashed, tick, Manner, simple_name, variable_name, symbol_name, behind, is_name}
 use Rattle.definitions.proofs.Laws.Bools.{by_cases, clash, and_true_left, and_true_right}
-
--- pieces with the byte between them
-unfoldable pub joined : ℕ → List Bytes → Bytes
-joined b [] = []
-joined b (f ∷ l) = f ++ behind_each b l
-
--- a text without the byte b
-abbrev pub Clear : ℕ → Bytes → Type 0
-Clear b [] = Unit {0}
-Clear b (x ∷ s) = (eqb x b ≡ false) × Clear b s
-
-abbrev pub AllClear : ℕ → List Bytes → Type 0
-AllClear b [] = Unit {0}
-AllClear b (f ∷ l) = Clear b f × AllClear b l
+use Rattle.definitions.specs.Laws.Pieces.{AllClear, Clear, joined}
 
 -- there is always a first piece
 pub split_some : (b : ℕ) (s : Bytes) → (f : Bytes) × (l : List Bytes) × (split b s ≡ f ∷ l)

@@ -16,10 +16,11 @@ use Rattle.definitions.specs.Limits.{Limits}
 use Rattle.definitions.specs.RuleText.{Node, line, lines, nodes, written}
 use Rattle.definitions.specs.Reading.{parse, node_weight, is_term, Due, some_due, parts, agree, bad, place, bad_line, scan, malformed, read}
 use Rattle.definitions.proofs.Laws.Bools.{by_cases, clash}
-use Rattle.definitions.proofs.Laws.Pieces.{Clear, split_some, split_clear, split_whole}
+use Rattle.definitions.specs.Laws.Pieces.{Clear}
+use Rattle.definitions.proofs.Laws.Pieces.{split_some, split_clear, split_whole}
 use Rattle.definitions.specs.Laws.Within.{Good, AllGood, Within}
 use Rattle.definitions.proofs.Laws.Lines.{parse_iff, line_clear}
-use Rattle.definitions.proofs.Laws.Served.{Served}
+use Rattle.definitions.specs.Laws.Served.{Served}
 use Rattle.definitions.proofs.Laws.Scanned.{scan_follows, scan_line}
 use Rattle.definitions.proofs.Laws.Reading.{within_served}
 

@@ -12,11 +12,14 @@ use Rattle.definitions.specs.Negation.{flip}
 use Rattle.definitions.specs.Prenex.{Pairs, Prefix, Prenex, Subst, apart, as_subst, close, flips, formula, merge, more, news, no_block, outward, plain, pnf, premise, pull, pull_right, shade, shades, sub, taken_names, to}
 use Rattle.definitions.proofs.Laws.Bools.{by_cases, clash, or_left, or_right}
 use Rattle.definitions.proofs.Laws.Sets.{mem_append}
-use Rattle.definitions.proofs.Laws.Blocks.{Off, block_const, block_not, block_same}
+use Rattle.definitions.specs.Laws.Blocks.{Off}
+use Rattle.definitions.proofs.Laws.Blocks.{block_const, block_not, block_same}
 use Rattle.definitions.proofs.Laws.Free.{truth_agree}
-use Rattle.definitions.proofs.Laws.Substitution.{Clear, mem_var, sub_truth}
+use Rattle.definitions.specs.Laws.Substitution.{Clear}
+use Rattle.definitions.proofs.Laws.Substitution.{mem_var, sub_truth}
 use Rattle.definitions.proofs.Laws.Simplify.{simplify_truth}
-use Rattle.definitions.proofs.Laws.Fresh.{In, news_away, renames_same, to_clear}
+use Rattle.definitions.specs.Laws.Fresh.{In}
+use Rattle.definitions.proofs.Laws.Fresh.{news_away, renames_same, to_clear}
 
 abbrev is_iff : Op → Bool
 is_iff and = false

@@ -18,7 +18,9 @@ use Rattle.definitions.specs.Clauses.{Raw, clauses, listing, raw}
 use Rattle.definitions.specs.Convert.{Conversion, Result, accepted, answer, as_clauses, convert, convert_reading, convert_tree, fitted, given, not_given, out_after, snf_of_prenex, pnf_to_snf, refused, refused_if, snf, snf_to_cnf, snf_to_dnf, stage, through_prenex, through_skolem, to_cnf, to_dnf, to_nnf, to_pnf, to_simplified, to_snf, too_large, too_long, too_many}
 use Rattle.definitions.proofs.Laws.Bools.{and_true_left, and_true_right, by_cases, or_false_left, or_false_right}
 use Rattle.definitions.proofs.Laws.Reading.{read_raised}
-use Rattle.definitions.proofs.Laws.Given.{Passed, not_refused, stage_passed, was_read}
+use Rattle.definitions.specs.Laws.Given.{Passed}
+use Rattle.definitions.proofs.Laws.Given.{not_refused, stage_passed, was_read}
+use Rattle.definitions.specs.Laws.Raised.{Accepted}
 
 -- what does not pass a limit does not pass a larger one
 not_above : (a a' x : ℕ) → a ≤ a' → ltb a x ≡ false → ltb a' x ≡ false
@@ -88,13 +90,6 @@ module _ (L L' : Limits) (up : Raised L L') where
   convert_raised c text s e =
       let (f, r, t) = was_read L c text s e in
       ap (convert_reading L' c) (read_raised L L' up text f r) ∙ tree_raised c f s t
-
--- An accepted call: the form was given, and fitted.
-pub record Accepted (L : Limits) (c : Conversion) (text : Bytes) (room n : ℕ) : Type 0 where
-  pub bytes : Bytes
-  pub was_given : convert L c text ≡ given bytes
-  pub size : length bytes ≡ n
-  pub fits : n ≤ room
 
 pub accepted_given : (L : Limits) (c : Conversion) (text : Bytes) (room work n : ℕ) → answer L c text room work ≡ accepted n → Accepted L c text room n
 unfolding answer

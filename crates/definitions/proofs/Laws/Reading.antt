@@ -16,7 +16,8 @@ use Rattle.definitions.proofs.Laws.Bools.{clash, and_true_left, and_true_right}
 use Rattle.definitions.proofs.Laws.Pieces.{join_split}
 use Rattle.definitions.specs.Laws.Within.{Allowed, AllGood, Within}
 use Rattle.definitions.proofs.Laws.Trees.{trees_formula}
-use Rattle.definitions.proofs.Laws.Served.{Served, serve, all_weight, Fits, grown}
+use Rattle.definitions.specs.Laws.Served.{Served, all_weight, Fits}
+use Rattle.definitions.proofs.Laws.Served.{serve, grown}
 use Rattle.definitions.proofs.Laws.Scanned.{scan_seen, served_scan}
 
 module _ (L : Limits) where

@@ -1,6 +1,6 @@
 -- The places of refusals: a text without a line is refused at line 1; a place is a line of the text, counted from 1, where what follows
 -- the last LF counts as one; and a refusal stays the same whatever stands behind its line.
-use Rattle.std.specs.Prelude.{◌≡◌, refl, ◌&&◌, ℕ, suc, ◌+◌, ◌≤◌, ◌<◌, length}
+use Rattle.std.specs.Prelude.{◌≡◌, refl, ◌&&◌, ℕ, suc, ◌+◌, ◌<◌, length}
 use Rattle.std.proofs.Common.{sym, ◌∙◌, ap}
 use Rattle.std.proofs.Math.Bool.{false}
 use mathlib.Core.List.{List, [], ◌∷◌, ◌++◌}
@@ -11,23 +11,13 @@ use Rattle.definitions.specs.RuleText.{Node}
 use Rattle.definitions.specs.Reading.{parse, node_weight, Due, some_due, Step, bad, over, on, place, Scan, read_nodes, bad_line, large_line, before, scan, Reading, tree, malformed, large, settle, read}
 use Rattle.definitions.proofs.Laws.Bools.{by_cases}
 use Rattle.definitions.proofs.Laws.Pieces.{split_some, split_append}
-use Rattle.definitions.proofs.Laws.Scanned.{follow, scan_follows}
+use Rattle.definitions.specs.Laws.Scanned.{follow}
+use Rattle.definitions.proofs.Laws.Scanned.{scan_follows}
+use Rattle.definitions.specs.Laws.Refusals.{Placed, RefusedBy}
 
 pub empty_refused : (L : Limits) → read L [] ≡ malformed 1
 unfolding read split scan
 empty_refused L = refl
-
--- the place is at least a and at most z
-abbrev pub Placed : ℕ → ℕ → Reading → Type 0
-Placed a z (tree f) = Unit {0}
-Placed a z (malformed k) = (a ≤ k) × (k ≤ z)
-Placed a z (large k) = (a ≤ k) × (k ≤ z)
-
--- it is refused, at one of the lines up to the z-th
-abbrev pub RefusedBy : ℕ → Reading → Type 0
-RefusedBy z (tree f) = ⊥
-RefusedBy z (malformed k) = k ≤ z
-RefusedBy z (large k) = k ≤ z
 
 placed_before : (n : Node) (a z : ℕ) (r : Scan) → Placed (suc a) z (settle r) → Placed a z (settle (before n r))
 placed_before n a z (read_nodes l) h = tt

@@ -7,29 +7,9 @@ use Rattle.definitions.specs.Limits.{Limits}
 use Rattle.definitions.specs.RuleText.{Manner, is_name}
 use Rattle.definitions.specs.Truth.{every}
 use Rattle.definitions.proofs.Laws.Bools.{and_true_left, and_true_right}
-use Rattle.definitions.proofs.Laws.Pieces.{joined, Clear, AllClear, split_clear, split_joined, clear_append, name_clear, decimal_clear}
-
--- a line's fields
-abbrev pub Row : Type 0
-Row = List Bytes
-
-unfoldable pub rows_text : List Row → Bytes
-rows_text [] = []
-rows_text (r ∷ l) = joined TAB r ++ (LF ∷ rows_text l)
-
--- neither a tab nor a line feed
-pub record Plain (s : Bytes) : Type 0 where
-  pub no_tab : Clear TAB s
-  pub no_feed : Clear LF s
-
-pub data PlainRow : Row → Type 0 where
-  no_field : PlainRow []
-  field : {f : Bytes} {r : Row} → Plain f → PlainRow r → PlainRow (f ∷ r)
-
--- a row has at least one field
-pub data PlainRows : List Row → Type 0 where
-  no_row : PlainRows []
-  plain_row : {f : Bytes} {r : Row} {l : List Row} → PlainRow (f ∷ r) → PlainRows l → PlainRows ((f ∷ r) ∷ l)
+use Rattle.definitions.specs.Laws.Pieces.{joined, Clear, AllClear}
+use Rattle.definitions.proofs.Laws.Pieces.{split_clear, split_joined, clear_append, name_clear, decimal_clear}
+use Rattle.definitions.specs.Laws.Rows.{Plain, PlainRow, PlainRows, Row, field, no_field, no_row, plain_row, rows_text}
 
 tabs_clear : {r : Row} → PlainRow r → AllClear TAB r
 tabs_clear no_field = tt

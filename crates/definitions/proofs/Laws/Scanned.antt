@@ -10,25 +10,17 @@ use Rattle.definitions.specs.Limits.{Limits}
 use Rattle.definitions.specs.RuleText.{Node, line, lines}
 use Rattle.definitions.specs.Reading.{parse, node_weight, is_term, Due, parts, agree, Step, bad, over, on, place, Scan, read_nodes, bad_line, large_line, before, scan}
 use Rattle.definitions.proofs.Laws.Bools.{and_true_left, and_true_right}
-use Rattle.definitions.proofs.Laws.Pieces.{joined, split_some, split_clear}
+use Rattle.definitions.specs.Laws.Pieces.{joined}
+use Rattle.definitions.proofs.Laws.Pieces.{split_some, split_clear}
 use Rattle.definitions.specs.Laws.Within.{Good, AllGood}
 use Rattle.definitions.proofs.Laws.Lines.{parse_iff, line_clear}
-use Rattle.definitions.proofs.Laws.Served.{Served}
-
--- what a scan that gives the nodes l has seen
-pub record Seen (L : Limits) (due : List Due) (w : ℕ) (ls : List Bytes) (l : List Node) : Type 0 where
-  pub text : joined LF ls ≡ lines l
-  pub good : AllGood L l
-  pub served : Served L l due w
+use Rattle.definitions.specs.Laws.Served.{Served}
+use Rattle.definitions.specs.Laws.Scanned.{Seen, follow}
 
 -- the node of a line that leads on, and that it serves
 record Leads (L : Limits) (due : List Due) (w : ℕ) (o : Option Node) (n : Node) (next : List Due) : Type 0 where
   has : o ≡ some n
   serves : (l : List Node) → Served L l next (w + node_weight n) → Served L (n ∷ l) due w
-
--- what the scan does after a line that is not the last piece
-abbrev pub follow : Limits → ℕ → ℕ → List Bytes → Step → Scan
-follow L w k ls a = elim a [ bad ↦ bad_line k | over ↦ large_line k | on n due ↦ before n (scan L due (w + node_weight n) (suc k) ls) ]
 
 module _ (L : Limits) where
   pub scan_follows : (due : List Due) (w k : ℕ) (s m : Bytes) (rest : List Bytes) → scan L due w k (s ∷ m ∷ rest) ≡ follow L w k (m ∷ rest) (place L due w (parse L s))

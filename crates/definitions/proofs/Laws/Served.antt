@@ -14,15 +14,9 @@ use Rattle.definitions.specs.Limits.{Limits}
 use Rattle.definitions.specs.RuleText.{Node, top_node, bot_node, not_node, eq_node, bin_node, block_node, pred_node, fun_node, var_node, con_node, term_nodes, terms_nodes, nodes}
 use Rattle.definitions.specs.Reading.{node_weight, is_term, Due, some_due, parts, agree, Tree, formula_tree, term_tree, plant, trees}
 use Rattle.definitions.proofs.Laws.Bools.{clash}
-use Rattle.definitions.proofs.Laws.Trees.{term_trees, take_them, drop_them}
-
--- the nodes l go through one after another where these things are due and w is the weight so far, and nothing is due behind them
-abbrev pub Served : Limits → List Node → List Due → ℕ → Type 0
-Served L [] [] w = Unit {0}
-Served L [] (d ∷ due) w = ⊥
-Served L (n ∷ l) [] w = ⊥
-Served L (n ∷ l) (d ∷ due) w =
-    (agree (is_term n) d.term ≡ true) × (d.depth ≤ L.depth) × (w + node_weight n ≤ L.weight) × Served L l (parts n (suc d.depth) ++ due) (w + node_weight n)
+use Rattle.definitions.specs.Laws.Trees.{term_trees}
+use Rattle.definitions.proofs.Laws.Trees.{take_them, drop_them}
+use Rattle.definitions.specs.Laws.Served.{Fits, Grown, Served, all_nodes, all_weight}
 
 module _ (L : Limits) where
   mutual
@@ -63,34 +57,6 @@ module _ (L : Limits) where
         (serve k (suc D) due (w + 1 + weight f) v l (omega arith) (omega arith) g s)),
   )
   serve (blk q vs f) D due w v l h e g s = (refl, omega arith, omega arith, serve f (suc D) due (w + (1 + length vs)) v l (omega arith) (omega arith) g s)
-
--- a tree is one that is due
-abbrev pub Fit : Limits → Due → Tree → Type 0
-Fit L d (formula_tree f) = (d.term ≡ false) × (d.depth + depth f ≤ suc L.depth)
-Fit L d (term_tree t) = (d.term ≡ true) × (d.depth + term_depth t ≤ suc L.depth)
-
-abbrev pub Fits : Limits → List Due → List Tree → Type 0
-Fits L [] [] = Unit {0}
-Fits L [] (t ∷ T) = ⊥
-Fits L (d ∷ due) [] = ⊥
-Fits L (d ∷ due) (t ∷ T) = Fit L d t × Fits L due T
-
--- the nodes and the weight of trees
-abbrev pub tree_nodes : Tree → List Node
-tree_nodes (formula_tree f) = nodes f
-tree_nodes (term_tree t) = term_nodes t
-
-abbrev pub all_nodes : List Tree → List Node
-all_nodes [] = []
-all_nodes (t ∷ T) = tree_nodes t ++ all_nodes T
-
-abbrev pub tree_weight : Tree → ℕ
-tree_weight (formula_tree f) = weight f
-tree_weight (term_tree t) = term_weight t
-
-abbrev pub all_weight : List Tree → ℕ
-all_weight [] = 0
-all_weight (t ∷ T) = tree_weight t + all_weight T
 
 terms_all_nodes : (ts : Terms) (T : List Tree) → terms_nodes ts ++ all_nodes T ≡ all_nodes (term_trees ts T)
 unfolding terms_nodes
@@ -172,12 +138,6 @@ module _ (L : Limits) where
       }))
   planted (var_node x) d due T a low fs = record { again = refl; heavier = refl; fits = ((a, omega arith), fs) }
   planted (con_node c) d due T a low fs = record { again = refl; heavier = refl; fits = ((a, omega arith), fs) }
-
--- Nodes that serve what is due are the nodes of their trees, and those are what is due.
-pub record Grown (L : Limits) (l : List Node) (due : List Due) (w : ℕ) : Type 0 where
-  pub again : all_nodes (trees l) ≡ l
-  pub fits : Fits L due (trees l)
-  pub light : w + all_weight (trees l) ≤ L.weight
 
 pub grown : (L : Limits) (l : List Node) (due : List Due) (w : ℕ) → w ≤ L.weight → Served L l due w → Grown L l due w
 unfolding trees

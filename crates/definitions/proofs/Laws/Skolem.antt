@@ -1,6 +1,6 @@
 -- Some meaning for the symbols that are drawn, the rest unchanged, makes the Skolem form as true as the prenex form, at every assignment
 -- at once; and whatever they mean, the Skolem form implies the prenex form.
-use Rattle.std.specs.Prelude.{◌≡◌, refl, true, false, not, ◌↔◌, List, ◌++◌, ℕ, length}
+use Rattle.std.specs.Prelude.{◌≡◌, refl, true, false, not, ◌↔◌, List, ◌++◌, length}
 use Rattle.std.proofs.Common.{sym, ◌∙◌, ap, arith}
 use Rattle.std.proofs.Math.Path.{fun_ext}
 use Rattle.std.proofs.Math.Bool.{and-false}
@@ -8,15 +8,17 @@ use Rattle.definitions.specs.Syntax.{Formula, Name, all, bin, blk, bot, eq, ex, 
 use Rattle.definitions.specs.Names.{bound, constants, free, functions, mem, syms, without}
 use Rattle.definitions.specs.Truth.{Assign, Domain, Meaning, block, truth, val}
 use Rattle.definitions.specs.Prenex.{Prefix, Prenex, close, formula, more, no_block, plain, shades, sub}
-use Rattle.definitions.specs.Skolem.{AlikeBut, Counts, Symbol, among, arguments, binders, constant_name, constant_symbol, counts_after, drawn_symbols, first_number, function_name, function_symbol, skolem, skolem_formula, skolem_term, skolemise}
+use Rattle.definitions.specs.Skolem.{AlikeBut, Counts, among, arguments, binders, constant_name, constant_symbol, counts_after, drawn_symbols, first_number, function_name, function_symbol, skolem, skolem_formula, skolem_term, skolemise}
 use Rattle.definitions.proofs.Laws.Bools.{and_true_left, and_true_right, by_cases, clash, or_left, or_right}
 use Rattle.definitions.proofs.Laws.Sets.{mem_append, mem_filter}
 use Rattle.definitions.proofs.Laws.Blocks.{all_in, all_out, ex_in}
 use Rattle.definitions.proofs.Laws.Substitution.{sub_truth}
-use Rattle.definitions.proofs.Laws.Fresh.{In}
+use Rattle.definitions.specs.Laws.Fresh.{In}
 use Rattle.definitions.proofs.Laws.Prenex.{sub_close, sub_no_block}
 use Rattle.definitions.proofs.Laws.Drawn.{put_else}
-use Rattle.definitions.proofs.Laws.OneBlock.{New, not_used, High, alike_truth, among_append, alike_step, block_high, block_put, grow, grow_alike, step, rises, put_new, put_free, put_clear}
+use Rattle.definitions.specs.Laws.OneBlock.{New, High, block_put}
+use Rattle.definitions.proofs.Laws.OneBlock.{not_used, alike_truth, among_append, alike_step, block_high, grow, grow_alike, step, rises, put_new, put_free, put_clear}
+use Rattle.definitions.specs.Laws.Skolem.{FreshFor}
 
 free_close : (p : Prefix) (m : Formula) (x : Name) → mem x (binders p) ≡ true → mem x (free (close p m)) ≡ false
 unfolding binders free close mem
@@ -153,11 +155,6 @@ pub skolem_one : (D : Domain) (M : Meaning D) (p : Prenex) (k : Counts) → no_b
     × ((ρ : Assign D) → truth D M' (skolem_formula (skolemise p k)) ρ ≡ truth D M (formula p) ρ)
 unfolding skolemise
 skolem_one D M p k plain-m new = skolem_law D p.prefix M p.matrix (free (formula p)) k plain-m (λ x i. i) new
-
--- The symbols drawn are new: none of them is a symbol of a formula that has none from the counts on.
-pub record FreshFor (f : Formula) (l : List Symbol) : Type 0 where
-  pub constant : (n : Name) → among (constant_symbol n) l ≡ true → mem n (syms constants f) ≡ false
-  pub function : (n : Name) (m : ℕ) → among (function_symbol n m) l ≡ true → mem n (syms functions f) ≡ false
 
 pub drawn_fresh : (p : Prenex) (k : Counts) (f : Formula) → New k f → FreshFor f (skolemise p k).drawn
 unfolding skolemise New

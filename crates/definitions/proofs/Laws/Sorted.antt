@@ -1,6 +1,6 @@
 -- Sorted lists as sets. `set_of` gives a strictly sorted list with just the members of the list that it was made from, and a set has only
 -- one strictly sorted list: so the order in which things are put in does not matter.
-use Rattle.std.specs.Prelude.{◌≡◌, Bool, ◌&&◌, ◌||◌, length}
+use Rattle.std.specs.Prelude.{◌≡◌, Bool, length}
 use Rattle.std.proofs.Math.Path.{refl, ap₂}
 use Rattle.std.proofs.Common.{sym, ◌∙◌, ap, arith}
 use Rattle.std.proofs.Math.Bool.{true, false, and_assoc, or_assoc, and_comm, or_comm, and_self_left, or_self_left, or-false}
@@ -12,12 +12,9 @@ use Rattle.definitions.specs.Truth.{every, any, over}
 use Rattle.definitions.specs.Order.{place, insert, set_of}
 use Rattle.definitions.proofs.Laws.Bools.{by_cases, clash, and_true_left, and_true_right}
 use Rattle.definitions.proofs.Laws.Blocks.{some_in}
-use Rattle.definitions.proofs.Laws.Order.{is_less, Equal, Less, swap, Orders, itself}
-
--- Every or any of a list, one element at a time.
-abbrev pub both : Quant → Bool → Bool → Bool
-both all a b = a && b
-both ex a b = a || b
+use Rattle.definitions.specs.Laws.Order.{is_less, Equal, Less, swap, Orders}
+use Rattle.definitions.proofs.Laws.Order.{itself}
+use Rattle.definitions.specs.Laws.Sorted.{above, both, has, sorted}
 
 pub both_assoc : (q : Quant) (a b c : Bool) → both q (both q a b) c ≡ both q a (both q b c)
 both_assoc all a b c = and_assoc a b c
@@ -61,18 +58,6 @@ module _ {A : Type 0} (q : Quant) (p : A → Bool) where
       go all (b ∷ l) = rw (go all l)
       go ex [] = refl
       go ex (b ∷ l) = rw (go ex l)
-
-module _ {A : Type 0} (cmp : A → A → Ordering) where
-  -- x comes before all of a list; strictly sorted; x is one of a list
-  abbrev pub above : A → List A → Bool
-  above x l = every (λ y. is_less (cmp x y)) l
-
-  unfoldable pub sorted : List A → Bool
-  sorted [] = true
-  sorted (x ∷ l) = above x l && sorted l
-
-  abbrev pub has : A → List A → Bool
-  has x l = any (λ y. compare_is_eq (cmp x y)) l
 
 module _ {A : Type 0} {cmp : A → A → Ordering} (order : Orders cmp) where
   -- `has` is membership

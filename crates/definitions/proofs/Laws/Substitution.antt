@@ -10,12 +10,11 @@ use Rattle.definitions.specs.Truth.{Assign, Domain, Meaning, block, join, truth,
 use Rattle.definitions.specs.Prenex.{Subst, shade, sub, term_sub, terms_sub}
 use Rattle.definitions.proofs.Laws.Bools.{by_cases, clash, or_left, or_right}
 use Rattle.definitions.proofs.Laws.Sets.{mem_append, same_eq}
-use Rattle.definitions.proofs.Laws.Blocks.{Off, block_same}
-use Rattle.definitions.proofs.Laws.Free.{mix, mix_off, val_agree}
-
--- no variable of a term that is put in is one of the list
-abbrev pub Clear : Subst → List Name → Type 0
-Clear s l = (x y : Name) → mem y (term_vars (s x)) ≡ true → mem y l ≡ true → s x ≡ var x
+use Rattle.definitions.specs.Laws.Blocks.{Off}
+use Rattle.definitions.proofs.Laws.Blocks.{block_same}
+use Rattle.definitions.specs.Laws.Free.{mix}
+use Rattle.definitions.proofs.Laws.Free.{mix_off, val_agree}
+use Rattle.definitions.specs.Laws.Substitution.{Clear}
 
 clear_left : (s : Subst) (a b : List Name) → Clear s (a ++ b) → Clear s a
 clear_left s a b c x y m n = c x y m (mem_append y a b ∙ or_left (mem y a) (mem y b) n)

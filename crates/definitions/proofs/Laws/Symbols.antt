@@ -10,12 +10,7 @@ use Rattle.definitions.specs.Prenex.{Subst, shade, sub, term_sub, terms_sub}
 use Rattle.definitions.proofs.Laws.Bools.{by_cases, clash, or_false_left, or_false_right, or_left, or_right}
 use Rattle.definitions.proofs.Laws.Sets.{mem_append, mem_filter, mem_head, mem_union}
 use Rattle.definitions.proofs.Laws.Substitution.{mem_var}
-
--- two meanings that are alike on lists of constants and functions, and on all predicates
-pub record Alike (D : Domain) (cs fs : List Name) (M N : Meaning D) : Type 0 where
-  pub on_con : (n : Name) → mem n cs ≡ true → M.const n ≡ N.const n
-  pub on_fun : (n : Name) → mem n fs ≡ true → M.func n ≡ N.func n
-  pub on_rel : (n : Name) → M.rel n ≡ N.rel n
+use Rattle.definitions.specs.Laws.Symbols.{Alike}
 
 module _ (D : Domain) (M N : Meaning D) where
   alike_left : (a b a' b' : List Name) → Alike D (a ++ b) (a' ++ b') M N → Alike D a a' M N

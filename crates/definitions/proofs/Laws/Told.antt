@@ -1,19 +1,19 @@
 -- What a prenex form that is given looks like, at the level of bytes: blocks, and then a matrix with no block and no iff; and the blocks
 -- are the simplified rule's in reading order, iffs written out, each flipped by its sign.
-use Rattle.std.specs.Prelude.{◌≡◌, refl, true, false, ◌&&◌}
+use Rattle.std.specs.Prelude.{◌≡◌, refl, true, ◌&&◌}
 use Rattle.std.proofs.Common.{sym, ap₂, ◌∙◌}
 use Rattle.definitions.specs.Bytes.{Bytes}
 use Rattle.definitions.specs.Syntax.{Op, and, or, imp, iff, Formula, top, bot, pred, eq, neg, bin, blk}
 use Rattle.definitions.specs.Limits.{Limits}
 use Rattle.definitions.specs.RuleText.{written}
-use Rattle.definitions.specs.Reading.{read, tree}
 use Rattle.definitions.specs.Simplify.{simplify}
 use Rattle.definitions.specs.Prenex.{Subst, sub, Prefix, plain, more, Prenex, close, formula, shades, apart, as_subst, pull_right, pull, merge, outward, pnf}
 use Rattle.definitions.specs.Convert.{convert, convert_tree, given, to_pnf}
 use Rattle.definitions.proofs.Laws.Bools.{and_both}
-use Rattle.definitions.proofs.Laws.Once.{flat}
-use Rattle.definitions.proofs.Laws.Outward.{blocks, prefix_blocks, pnf_blocks}
+use Rattle.definitions.specs.Laws.Once.{flat}
+use Rattle.definitions.proofs.Laws.Outward.{pnf_blocks}
 use Rattle.definitions.proofs.Laws.Given.{given_inj, prenex_passed, was_read}
+use Rattle.definitions.specs.Laws.Told.{PrenexTold}
 
 -- renaming leaves the shape
 sub_flat : (f : Formula) (s : Subst) → flat (sub s f) ≡ flat f
@@ -81,15 +81,6 @@ matrix_flat (blk q vs f) = matrix_flat f
 pub pnf_flat : (f : Formula) → flat (pnf f).matrix ≡ true
 unfolding pnf
 pnf_flat f = matrix_flat (simplify f)
-
--- the text s is a prenex form of the rule that stands in the text
-pub record PrenexTold (L : Limits) (text s : Bytes) : Type 0 where
-  pub rule : Formula
-  pub form : Prenex
-  pub reads : read L text ≡ tree rule
-  pub writes : s ≡ written (formula form)
-  pub shape : flat form.matrix ≡ true
-  pub order : prefix_blocks form.prefix ≡ blocks false (simplify rule)
 
 pub pnf_told : (L : Limits) (text s : Bytes) → convert L to_pnf text ≡ given s → PrenexTold L text s
 unfolding convert_tree

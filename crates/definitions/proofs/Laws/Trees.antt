@@ -4,11 +4,7 @@ use Rattle.std.proofs.Common.{◌∙◌, ap, append_assoc}
 use Rattle.definitions.specs.Syntax.{Term, var, con, app, Terms, nil, cons, Formula, top, bot, pred, eq, neg, bin, blk, count}
 use Rattle.definitions.specs.RuleText.{Node, term_nodes, terms_nodes, nodes}
 use Rattle.definitions.specs.Reading.{Tree, formula_tree, term_tree, take_terms, drop_terms, plant, trees}
-
--- terms as trees, before other trees
-abbrev pub term_trees : Terms → List Tree → List Tree
-term_trees nil l = l
-term_trees (cons t ts) l = term_tree t ∷ term_trees ts l
+use Rattle.definitions.specs.Laws.Trees.{term_trees}
 
 pub take_them : (ts : Terms) (l : List Tree) → take_terms (count ts) (term_trees ts l) ≡ ts
 unfolding take_terms count

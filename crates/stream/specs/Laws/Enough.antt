@@ -14,7 +14,8 @@ use Rattle.definitions.proofs.Laws.Bools.{by_cases, and_true_left, and_true_righ
 use Rattle.definitions.proofs.Laws.Pieces.{split_some}
 use Rattle.definitions.specs.Laws.Within.{Allowed}
 use Rattle.definitions.proofs.Laws.Lines.{parse_iff}
-use Rattle.definitions.proofs.Laws.Scanned.{follow, scan_follows}
+use Rattle.definitions.specs.Laws.Scanned.{follow}
+use Rattle.definitions.proofs.Laws.Scanned.{scan_follows}
 
 -- 33 bytes for each unit of weight, and one line that is too long
 abbrev pub enough : ℕ

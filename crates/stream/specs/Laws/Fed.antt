@@ -17,7 +17,8 @@ use Rattle.definitions.specs.Convert.{Conversion, to_simplified, to_nnf, to_pnf,
 use Rattle.definitions.specs.Program.{cut, do_word, done_word, conversion_word, conversions, conversion_of, field_line, refusal, rules_output, file_output, after_first, of_lines, program}
 use Rattle.definitions.proofs.Laws.Bools.{by_cases, and_true_left, and_true_right}
 use Rattle.definitions.proofs.Laws.Sets.{same_eq}
-use Rattle.definitions.proofs.Laws.Pieces.{Clear, clear_append}
+use Rattle.definitions.specs.Laws.Pieces.{Clear}
+use Rattle.definitions.proofs.Laws.Pieces.{clear_append}
 use Rattle.stream.specs.Machine.{room, Machine, matches, complete, second_line, refused_file, first_line, chosen, grown, step, second_step, first_step, due_print, last_print, opened, print_bytes, conversion_found, number_of, longest_first, run}
 use Rattle.stream.specs.Feeding.{told, streams, begun, behind, through, fed, joined}
 use Rattle.stream.specs.Laws.Rules.{line_of, after_line, line_at, pending, cut_line, line_ends, line_matches, rule_begins, line_misses}

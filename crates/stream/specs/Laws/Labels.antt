@@ -9,7 +9,7 @@ use Rattle.definitions.specs.RuleText.{letter, simple_name, behind, is_name}
 use Rattle.definitions.specs.Program.{field_line, rule_word, without_end, label, good_label}
 use Rattle.definitions.proofs.Laws.Bools.{by_cases, clash, and_true_left, and_true_right}
 use Rattle.definitions.proofs.Laws.Sets.{same_refl, same_eq}
-use Rattle.definitions.proofs.Laws.Pieces.{Clear}
+use Rattle.definitions.specs.Laws.Pieces.{Clear}
 use Rattle.stream.specs.Machine.{rule_tab, longest_label}
 use Rattle.stream.specs.Laws.Rules.{line_of, after_line}
 

@@ -6,7 +6,7 @@ use Rattle.std.proofs.lemmas.Bool.{eqb-false}
 use Rattle.definitions.specs.Bytes.{Bytes, TAB, LF, begins}
 use Rattle.definitions.specs.Program.{Parts, cut, parts}
 use Rattle.definitions.proofs.Laws.Bools.{by_cases}
-use Rattle.definitions.proofs.Laws.Pieces.{Clear}
+use Rattle.definitions.specs.Laws.Pieces.{Clear}
 use Rattle.stream.specs.Machine.{rule_tab, matches}
 
 -- the first line with its LF, and what follows it

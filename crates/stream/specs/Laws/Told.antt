@@ -11,7 +11,8 @@ use Rattle.definitions.specs.RuleText.{simple_name, is_name}
 use Rattle.definitions.specs.Convert.{convert}
 use Rattle.definitions.specs.Program.{Parts, cut, parts, rule_word, field_line, printed, good_label, label, rule_output, rules_output}
 use Rattle.definitions.proofs.Laws.Bools.{by_cases, clash, and_true_left, and_true_right}
-use Rattle.definitions.proofs.Laws.Pieces.{Clear, clear_append}
+use Rattle.definitions.specs.Laws.Pieces.{Clear}
+use Rattle.definitions.proofs.Laws.Pieces.{clear_append}
 use Rattle.stream.specs.Machine.{room, rule_print, rule_tab, matches, next_matched, in_text, in_label, grown, step, text_step, label_step, due_print, last_print, print_bytes, rule_bytes, name_kept, text_kept, longest_label, conversion_found}
 use Rattle.stream.specs.Feeding.{told, streams}
 use Rattle.stream.specs.Laws.Rules.{line_of, after_line, line_at, first_rule, pending, line_ends, line_matches, rule_begins, line_misses}
