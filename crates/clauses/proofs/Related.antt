@@ -5,7 +5,7 @@ use Prim.Native.Nat.{ℕ, suc, ◌+◌, Ordering}
 use lib.ListN.{length}
 use Rattle.definitions.specs.Order.{Literal, Clause, then, cmp_list, place, insert, set_of}
 use Rattle.definitions.specs.Clauses.{product}
-use Rattle.definitions.proofs.Laws.Counts as counts
+use Rattle.definitions.specs.Laws.Counts as counts
 use Rattle.clauses.specs.Each.{Each, none, more}
 use Rattle.clauses.specs.Plans.{joined}
 use Rattle.clauses.specs.Steps.{total}
