@@ -4,7 +4,7 @@ ghost use Rattle.definitions.specs.Bytes.{Bytes, TAB as tab, LF as lf, same};
 ghost use Rattle.definitions.specs.Limits.{house};
 ghost use Rattle.definitions.specs.RuleText.{simple_name, is_name};
 ghost use Rattle.definitions.specs.Program.{do_word, conversion_word, conversions};
-ghost use Rattle.stream.specs.Machine.{at, number_of, conversion_found, matches as matches_of, next_matched, grown, first_line, refused_file, second_line, in_label, in_text, chosen, first_step, second_step, label_step, text_step, step as step_of_lem};
+ghost use Rattle.stream.specs.Machine.{at, number_of, conversion_found, matches as matches_of, next_matched, grown, first_line, refused_file, second_line, in_label, in_text, chosen, first_step, second_step, label_step, text_step, step as machine_step};
 
 use text::names;
 
@@ -276,7 +276,7 @@ fn in_text_byte(state: State, kept: &mut [u8], b: u8) -> State
 
 // A byte, in whatever phase.
 pub fn step(state: State, kept: &mut [u8], b: u8) -> State
-    ensures { at result kept.new ≡ step_of_lem (at state kept.old) b }
+    ensures { at result kept.new ≡ machine_step (at state kept.old) b }
 {
     let phase = state.phase;
     match phase {

@@ -6,7 +6,7 @@ ghost use Rattle.std.specs.Prelude.{◌≡◌, [], ◌∷◌, ℕ, ◌+◌, ◌�
 ghost use Rattle.std.proofs.Math.Seq.{slice};
 ghost use Rattle.definitions.specs.Bytes.{Bytes, TAB, decimal};
 ghost use Rattle.text.specs.Words.{spell, token, tokens};
-ghost use Rattle.writer.specs.Writer.{keyword_of, body, after, end as end_of_lem, text_of, Wrote, Puts, Measured, Writes};
+ghost use Rattle.writer.specs.Writer.{keyword_of, body, after, end as line_end, text_of, Wrote, Puts, Measured, Writes};
 
 use text::names;
 
@@ -188,7 +188,7 @@ fn due(word: u64, left: usize) -> usize
 
 // How long the end of a line is, where `left` variables are due.
 fn end_size(left: usize) -> usize
-    ensures { (result ≡ length (end_of_lem left)) × (result ≤ 1) }
+    ensures { (result ≡ length (line_end left)) × (result ≤ 1) }
 {
     if left > 0 {
         return 0;
@@ -291,7 +291,7 @@ fn put_body<'a>(
 
 // Ends the line where no variable is due any more.
 fn put_end(out: &mut [u8], at: usize, left: usize) -> usize
-    ensures { Puts out.old at (end_of_lem left) out.new result }
+    ensures { Puts out.old at (line_end left) out.new result }
 {
     if left > 0 {
         return at;
