@@ -1,11 +1,12 @@
 -- Insertion: the place is sought from the front, and what stands from there on is carried up by one.
-use mathlib.Core.Path.{◌≡◌, refl, sym, ap, ◌∙◌}
+use mathlib.Core.Path.{◌≡◌, refl, sym, ap, subst, ◌∙◌}
 use mathlib.Core.List.{List, [], ◌∷◌, ◌++◌, append_assoc, map}
-use Prim.Native.Nat.{ℕ, ◌+◌, ◌<◌, ◌≤◌, Ordering}
+use Prim.Native.Nat.{ℕ, ◌+◌, ◌-◌, ◌<◌, ◌≤◌, Ordering}
 use native.Mathlib.Omega.{arith}
 use native.Mathlib.Numerals.{add-one}
-use lib.ListN.{length, take, drop, get_or, set, drop_of_length-le, take-append-drop}
-use lib.Seq.{drop-cons, take-suc, take-suc-set, take-set-lt, drop-set-lt, get_or-take, length-take-le, take-take}
+use lib.ListN.{length, take, drop, get_or, set, length-drop, drop_of_length-le, take-append-drop}
+use Rattle.std.proofs.lemmas.List.{drop-take}
+use lib.Seq.{paste, take-paste, set_at, drop-cons, take-suc, take-set-lt, get_or-take, length-take-le, take-take}
 use Rattle.definitions.specs.Order.{insert}
 use Rattle.clauses.proofs.Related.{map_append}
 
@@ -17,27 +18,25 @@ module _ (X : List ℕ) (i n : ℕ) (here : i < n) (room : n ≤ length X) where
   pub mid_cons : mid i n X ≡ get_or X i 0 ∷ mid (i + 1) n X
   mid_cons = drop-cons (take n X) i 0 (rw (length-take-le n X room) here) ∙ rw (get_or-take n X i 0 here, add-one)
 
-  mid_set : (v : ℕ) → mid (i + 1) n (set X i v) ≡ mid (i + 1) n X
-  mid_set v = rw (take-set-lt n X i v here, drop-set-lt (i + 1) (take n X) i v (omega arith))
-
   front_kept : take (i + 1) X ≡ take i X ++ (get_or X i 0 ∷ [])
   front_kept = rw (add-one, take-suc X i 0 (omega arith))
-
-  front_set : (v : ℕ) → take (i + 1) (set X i v) ≡ take i X ++ (v ∷ [])
-  front_set v = rw (add-one, take-suc-set X i v (omega arith))
 
 pub mid_none : (X : List ℕ) (n : ℕ) → n ≤ length X → mid n n X ≡ []
 mid_none X n h = drop_of_length-le (take n X) {i = n} (rw (length-take-le n X h) (omega arith))
 
--- a number put in, those behind it carried up by one
-pub shifted_more : (X : List ℕ) (j n c : ℕ) (L : List ℕ) → j < n → n ≤ length X → take j X ++ (c ∷ mid j n X) ≡ L
-    → take (j + 1) (set X j c) ++ (get_or X j 0 ∷ mid (j + 1) n (set X j c)) ≡ L
-shifted_more X j n c L here room e = rw (front_set X j n here room c, mid_set X j n here room c, append_assoc) (rw (mid_cons X j n here room) at e)
-
-pub shifted_end : (X : List ℕ) (j n c : ℕ) (L : List ℕ) → j ≡ n → n < length X → take j X ++ (c ∷ mid j n X) ≡ L → take (n + 1) (set X n c) ≡ L
-shifted_end X j n c L z room e =
-    let k : take n X ++ (c ∷ mid n n X) ≡ L = rw z at e in
-    rw (add-one, take-suc-set X n c room) (rw (mid_none X n (omega arith)) at k)
+-- those from the place i on moved up by one, and a number put there
+pub shifted : (X : List ℕ) (i n x : ℕ) → i ≤ n → n < length X
+    → take (n + 1) (set (paste X (i + 1) (drop i X) (n - i)) i x) ≡ take i X ++ (x ∷ mid i n X)
+shifted X i n x h room =
+    let z : i + 1 + (n - i) ≡ n + 1 = omega arith in
+    let y : i + (n - i) ≡ n = omega arith in
+    let moved : take (n + 1) (paste X (i + 1) (drop i X) (n - i)) ≡ take (i + 1) X ++ take (n - i) (drop i X) =
+    subst (λ (k : ℕ). take k (paste X (i + 1) (drop i X) (n - i)) ≡ take (i + 1) X ++ take (n - i) (drop i X)) z
+    (take-paste X (i + 1) (drop i X) (n - i) (omega arith) (omega (arith, length-drop i X))) in
+    let first : take (i + 1) X ≡ take i X ++ (get_or X i 0 ∷ []) = rw (add-one, take-suc X i 0 (omega arith)) in
+    let behind : drop i (take n X) ≡ take (n - i) (drop i X) = rw y at (drop-take i (n - i) X) in
+    take-set-lt (n + 1) (paste X (i + 1) (drop i X) (n - i)) i x (omega arith)
+    ∙ rw (moved, first, append_assoc, set_at (take i X) (get_or X i 0) (take (n - i) (drop i X)) x i (length-take-le i X (omega arith)), behind)
 
 -- the place of x among the first n, which stand for what g says: what stands before i comes first
 module _ {A : Type 0} (cmp : A → A → Ordering) (g : ℕ → A) (x : A) (X : List ℕ) (n : ℕ) where

@@ -1,12 +1,13 @@
 -- The loops that collect the atoms, and that put ranks for places: one word more from the back.
-use mathlib.Core.Path.{◌≡◌, refl, sym, ap, ap₂, ◌∙◌}
+use mathlib.Core.Path.{◌≡◌, sym, ap, ap₂, ◌∙◌}
 use mathlib.Core.Bool.{Bool, true, cond}
-use mathlib.Core.List.{List, [], ◌∷◌, map}
-use Prim.Native.Nat.{ℕ, suc, ◌+◌, ◌-◌, ◌<◌, ◌≤◌, Ordering}
+use mathlib.Core.List.{List, [], ◌∷◌, ◌++◌, map}
+use Prim.Native.Nat.{ℕ, zero, suc, ◌+◌, ◌-◌, ◌<◌, ◌≤◌, Ordering}
 use native.Mathlib.Omega.{arith}
+use native.Mathlib.Numerals.{add-one}
 use lib.Dec.{leb}
 use lib.ListN.{length, take, drop, get_or, set, length-set, length-map, length-drop, drop_of_length-le}
-use lib.Seq.{drop-cons, get_or-set_same, drop-set-lt, take-set-le, take-take, get_or-take, length-take-le}
+use lib.Seq.{take_all, take-suc, take-suc-set, drop-cons, drop-set-lt, get_or-drop}
 use Rattle.definitions.specs.Bytes.{Bytes}
 use Rattle.definitions.specs.Order.{Atom, insert, set_of}
 use Rattle.definitions.proofs.Laws.Bools.{by_cases, clash}
@@ -18,8 +19,7 @@ use Rattle.clauses.specs.Laying.{atomic}
 use Rattle.clauses.specs.Ranks.{cmp_parts, part_word, lead, spots}
 use Rattle.clauses.specs.Search.{Falls}
 use Rattle.clauses.specs.Sets.{Spelled}
-use Rattle.clauses.proofs.Carry.{mid, mid_cons, mid_none}
-use Rattle.clauses.proofs.Related.{each_set}
+use Rattle.clauses.proofs.Related.{map_append, each_set}
 use Rattle.clauses.proofs.Ranked.{parts_agree}
 use Rattle.clauses.proofs.Searching.{sorted_falls}
 
@@ -28,28 +28,30 @@ unfolding lead
 lead_length [] = omega arith
 lead_length (k ∷ l) = by_cases (leb k 10) (λ t. rw t (omega arith)) (λ t. rw t (omega (arith, lead_length l)))
 
-module _ (S : List ℕ) (used : ℕ) (room : used ≤ length S) where
+module _ (S : List ℕ) where
   abbrev pub kinds_from : ℕ → List ℕ
-  kinds_from at = map kind_of_word (mid at used S)
+  kinds_from at = map kind_of_word (drop at S)
 
-  pub lead_fits : (at : ℕ) → at ≤ used → at + lead (kinds_from at) ≤ used
-  lead_fits at h =
-      omega (arith, lead_length (kinds_from at), length-map (mid at used S) kind_of_word, length-drop at (take used S), length-take-le used S room)
+  pub lead_fits : (at : ℕ) → at ≤ length S → at + lead (kinds_from at) ≤ length S
+  lead_fits at h = omega (arith, lead_length (kinds_from at), length-map (drop at S) kind_of_word, length-drop at S)
 
   -- nothing is found behind the last word
-  pub none_leads : used ≡ used + lead (kinds_from used)
+  none_left : drop (length S) S ≡ []
+  none_left = drop_of_length-le S {i = length S} (omega arith)
+
+  pub none_leads : length S ≡ length S + lead (kinds_from (length S))
   unfolding lead
-  none_leads = rw (mid_none S used room) (omega arith)
+  none_leads = rw none_left (omega arith)
 
-  pub none_found : (cmp : ℕ → ℕ → Ordering) (X : List ℕ) → take 0 X ≡ set_of cmp (spots used (kinds_from used))
+  pub none_found : (cmp : ℕ → ℕ → Ordering) (X : List ℕ) → take 0 X ≡ set_of cmp (spots (length S) (kinds_from (length S)))
   unfolding set_of spots
-  none_found cmp X = rw (mid_none S used room)
+  none_found cmp X = rw none_left
 
-  module _ (at : ℕ) (some : 0 < at) (inside : at ≤ used) where
+  module _ (at : ℕ) (some : 0 < at) (inside : at ≤ length S) where
     one_more : kinds_from (at - 1) ≡ kind_of_word (get_or S (at - 1) 0) ∷ kinds_from at
     one_more =
-        let z : at - 1 + 1 ≡ at = omega arith in
-        let m : mid (at - 1) used S ≡ get_or S (at - 1) 0 ∷ mid at used S = rw z at (mid_cons S (at - 1) used (omega arith) room) in
+        let z : suc (at - 1) ≡ at = omega arith in
+        let m : drop (at - 1) S ≡ get_or S (at - 1) 0 ∷ drop at S = rw z at (drop-cons S (at - 1) 0 (omega arith)) in
         ap (map kind_of_word) m
 
     -- where the terms end
@@ -94,33 +96,32 @@ module _ (S : List ℕ) (used : ℕ) (room : used ≤ length S) where
           (λ t. rw (spots_more end e, t) (one_new t (rw (spots_more end e, t) at h)))
           (λ t. rw (spots_more end e, t) (put (λ k. clash k t) ∙ rw t (had found (rw (spots_more end e, t) at h))))
 
--- a table mapped in place, from the back, where all of it that is mapped has P
+-- a table mapped in place, as far as i, where all of it has P
 pub record Mapped (P : ℕ → Type 0) (f : ℕ → ℕ) (O : List ℕ) (i : ℕ) (Q : List ℕ) : Type 0 where
   pub len : length Q ≡ length O
-  pub front : take i Q ≡ take i O
-  pub done : All P (drop i O) → drop i Q ≡ map f (drop i O)
+  pub rest : drop i Q ≡ drop i O
+  pub done : All P O → take i Q ≡ map f (take i O)
 
-pub mapped_none : (P : ℕ → Type 0) (f : ℕ → ℕ) (O : List ℕ) (i : ℕ) → length O ≤ i → Mapped P f O i O
-mapped_none P f O i h = record { len = refl; front = refl; done = λ k. rw (drop_of_length-le O {i = i} h) }
-
-pub mapped_more : (P : ℕ → Type 0) (f : ℕ → ℕ) (O Q : List ℕ) (i v : ℕ) → 0 < i → i ≤ length O → Mapped P f O i Q
-    → (P (get_or Q (i - 1) 0) → v ≡ f (get_or Q (i - 1) 0)) → Mapped P f O (i - 1) (set Q (i - 1) v)
+all_at : (P : ℕ → Type 0) (l : List ℕ) (i : ℕ) → i < length l → All P l → P (get_or l i 0)
 unfolding All
-mapped_more P f O Q i v some h m e =
-    let y : suc (i - 1) ≡ i = omega arith in
+all_at P [] i h k = absurd (omega arith)
+all_at P (x ∷ l) zero h k = k.0
+all_at P (x ∷ l) (suc i) h k = all_at P l i (omega arith) k.1
+
+pub mapped_more : (P : ℕ → Type 0) (f : ℕ → ℕ) (O Q : List ℕ) (i v : ℕ) → i < length O → Mapped P f O i Q
+    → (P (get_or Q i 0) → v ≡ f (get_or Q i 0)) → Mapped P f O (i + 1) (set Q i v)
+mapped_more P f O Q i v h m e =
+    let z : i + 0 ≡ i = omega arith in
     let l : length Q ≡ length O = m.len in
-    let same : get_or Q (i - 1) 0 ≡ get_or O (i - 1) 0 =
-    sym (get_or-take i Q (i - 1) 0 (omega arith)) ∙ ap (λ (X : List ℕ). get_or X (i - 1) 0) m.front ∙ get_or-take i O (i - 1) 0 (omega arith) in
-    let at_end : drop (i - 1) (set Q (i - 1) v) ≡ v ∷ drop i Q =
-    drop-cons (set Q (i - 1) v) (i - 1) 0 (omega (arith, length-set Q (i - 1) v))
-    ∙ rw (y, get_or-set_same Q (i - 1) v 0 (omega arith), drop-set-lt i Q (i - 1) v (omega arith)) in
-    let whole : drop (i - 1) O ≡ get_or O (i - 1) 0 ∷ drop i O = rw y at (drop-cons O (i - 1) 0 (omega arith)) in
+    let same : get_or Q i 0 ≡ get_or O i 0 =
+    rw z at (sym (get_or-drop i Q 0 0) ∙ ap (λ (X : List ℕ). get_or X 0 0) m.rest ∙ get_or-drop i O 0 0) in
     record {
-      len = length-set Q (i - 1) v ∙ l;
-      front =
-          take-set-le (i - 1) Q (i - 1) v (omega arith) ∙ sym (take-take (i - 1) i Q (omega arith))
-          ∙ ap (take (i - 1)) m.front ∙ take-take (i - 1) i O (omega arith);
+      len = length-set Q i v ∙ l;
+      rest = rw (add-one, drop-set-lt (suc i) Q i v (omega arith)) (ap (drop 1) (sym (drop-cons Q i 0 (omega arith)) ∙ m.rest ∙ drop-cons O i 0 h));
       done = λ k.
-          let all : P (get_or O (i - 1) 0) × All P (drop i O) = rw whole at k in
-          at_end ∙ ap₂ (◌∷◌) (e (rw same all.0) ∙ ap f same) (m.done all.1) ∙ sym (ap (map f) whole);
+          rw (add-one, take-suc-set Q i v (omega arith), take-suc O i 0 h, map_append f (take i O) (get_or O i 0 ∷ []))
+          (ap₂ (λ a w. a ++ (w ∷ [])) (m.done k) (e (rw same (all_at P O i h k)) ∙ ap f same));
     }
+
+pub mapped_all : (P : ℕ → Type 0) (f : ℕ → ℕ) (O Q : List ℕ) (i : ℕ) → i ≡ length O → Mapped P f O i Q → All P O → Q ≡ map f O
+mapped_all P f O Q i z m k = sym (take_all i Q (omega (arith, m.len))) ∙ m.done k ∙ ap (map f) (take_all i O (omega arith))

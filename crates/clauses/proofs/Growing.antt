@@ -1,30 +1,29 @@
 -- One more clause in the table: a part behind those that are there leaves them as they are.
 use mathlib.Core.Path.{◌≡◌, refl, sym, ap, ap₂, ◌∙◌}
-use mathlib.Core.List.{List, [], ◌∷◌, ◌++◌, map, append_assoc, append-nil}
+use mathlib.Core.List.{List, [], ◌∷◌, ◌++◌, map}
 use Prim.Native.Nat.{ℕ, zero, suc, ◌+◌, ◌-◌, ◌/◌, ◌%◌, ◌<◌, ◌≤◌, compare}
 use native.Mathlib.Omega.{arith}
-use native.Mathlib.Numerals.{add-one}
-use lib.ListN.{length, take, drop, get_or, set, length-append, length-drop, drop_of_length-le, take-append-drop}
-use lib.Seq.{length-take-le, take-add, take_at, drop_at, take-take, drop-cons, take-suc, take-suc-set}
+use borrow.Rule.Slice.PartMut.{put_mid}
+use Rattle.std.proofs.lemmas.Slice.{take-put_mid}
+use lib.ListN.{length, length-take, take, drop, length-append, drop_of_length-le, take-append-drop}
+use lib.Seq.{length-take-le, take-add, take_at, drop_at, take-take, drop-cons}
 use Rattle.definitions.specs.Order.{insert, set_of}
 use Rattle.definitions.proofs.Laws.Sorted.{set_of_length}
 use Rattle.clauses.specs.Plans.{Plan, made, words}
 use Rattle.clauses.specs.Ranks.{part, part_word}
 use Rattle.clauses.specs.Sets.{entries, cmp_numbers, sets_of}
 use Rattle.clauses.specs.Steps.{Walked, total, Within, GrownBy, Grows}
-use Rattle.clauses.specs.declared.sets.Grown.{Grown}
+use Rattle.clauses.specs.declared.set.Set.{Set}
 use Rattle.clauses.proofs.Planned.{words_length}
 use Rattle.clauses.proofs.Raw.{nth, clause_short}
 
--- numbers copied one by one
-pub copied_first : (D C : List ℕ) (used : ℕ) → take (used + 0) D ≡ take used D ++ take 0 C
-copied_first D C used = let z : used + 0 ≡ used = omega arith in rw z (sym (append-nil (take used D)))
-
-pub copied_more : (D D₀ C : List ℕ) (used i : ℕ) → used + i < length D → i < length C → take (used + i) D ≡ take used D₀ ++ take i C
-    → take (used + (i + 1)) (set D (used + i) (get_or C i 0)) ≡ take used D₀ ++ take (i + 1) C
-copied_more D D₀ C used i h l e =
-    let z : used + (i + 1) ≡ suc (used + i) = omega arith in
-    rw (z, take-suc-set D (used + i) (get_or C i 0) h, add-one, take-suc C i 0 l, e, append_assoc)
+-- a part of the store written over, by the first numbers of a clause
+pub copied : (D C Y : List ℕ) (used size k : ℕ) → used + size ≤ length D → Y ≡ take size C → size ≤ length C
+    → (take (used + size) (put_mid used k D Y) ≡ take used D ++ Y) × (used + size ≤ length (put_mid used k D Y))
+copied D C Y used size k h e l =
+    let m : length Y ≡ size = ap length e ∙ length-take-le size C l in
+    let f : take (used + size) (put_mid used k D Y) ≡ take used D ++ Y = take-put_mid used k D Y (used + size) (omega arith) (omega arith) in
+    (f, omega (arith, ap length f, length-take (used + size) (put_mid used k D Y), length-append (take used D) Y, length-take-le used D (omega arith)))
 
 -- words within the first of the store
 within_more : (u v : ℕ) (l : List ℕ) → u ≤ v → Within u l → Within v l
@@ -71,15 +70,15 @@ module _ (D D' c : List ℕ) (used size : ℕ) (h : used + size ≤ length D') (
       let b : part_word used size % 4096 ≡ used = omega arith in
       rw (a, b) new_part
 
-  pub grown : (X X' : List ℕ) (n r : ℕ) (l : List ℕ) → used ≤ 2048 → c ≡ set_of compare l → size ≤ length l
-      → ((u : ℕ) → Within u (take n X) → part_word used size % 4096 + part_word used size / 4096 ≤ u → Within u (take r X'))
-      → entries D' X' r ≡ insert cmp_numbers (part D' (part_word used size)) (entries D' X n)
-      → Within used (take n X)
-      → GrownBy D X (record { count = n; used = used }) D' X' (record { count = r; used = used + size }) l
-  grown X X' n r l small e s in_table does w =
-      let same : entries D X n ≡ entries D' X n = parts_kept D D' (take n X) used h₀ (omega arith) kept w in
+  pub grown : (s s' : Set) (l : List ℕ) → D ≡ s.literals → s'.literals ≡ D' → used ≤ 2048 → c ≡ set_of compare l → size ≤ length l
+      → ((u : ℕ) → Within u (take s.count s.index) → part_word used size % 4096 + part_word used size / 4096 ≤ u → Within u (take s'.count s'.index))
+      → entries s' ≡ insert cmp_numbers (part D' (part_word used size)) (map (part D') (take s.count s.index))
+      → Within used (take s.count s.index)
+      → GrownBy s used s' (used + size) l
+  grown s s' l d d' small e n in_set does w =
+      let same : entries s ≡ map (part D') (take s.count s.index) = rw (← d) (parts_kept D D' (take s.count s.index) used h₀ (omega arith) kept w) in
       record {
-        within = in_table (used + size) (within_more used (used + size) (take n X) (omega arith) w) (omega arith);
+        within = in_set (used + size) (within_more used (used + size) (take s.count s.index) (omega arith) w) (omega arith);
         used_by = omega arith;
         holds = does ∙ ap₂ (insert cmp_numbers) (new_entry small ∙ e) (sym same);
       }
@@ -93,17 +92,17 @@ module _ (O O' : List ℕ) (n : ℕ) (c : List ℕ) (len : length O' ≡ 1024) (
   pub got_length : n ≤ length c
   got_length = omega (arith, sym (length-take-le n O' (omega arith)) ∙ ap length got, set_of_length compare c)
 
--- the table after the raw clauses from k on
-pub record Gathered (D X : List ℕ) (g : Grown) (l : List (List ℕ)) : Type 0 where
-  pub within_first : Within g.used (take g.count X)
-  pub used_by : g.used ≤ total l
-  pub lists : entries D X g.count ≡ sets_of l
+-- the set after the raw clauses from k on
+pub record Gathered (s : Set) (used : ℕ) (l : List (List ℕ)) : Type 0 where
+  pub within_first : Within used (take s.count s.index)
+  pub used_by : used ≤ total l
+  pub lists : entries s ≡ sets_of l
 
-pub gathered_none : (D X : List ℕ) (l : List (List ℕ)) (k : ℕ) → k ≡ length l → Gathered D X (record { count = 0; used = 0 }) (drop k l)
+pub gathered_none : (s : Set) (l : List (List ℕ)) (k : ℕ) → s.count ≡ 0 → k ≡ length l → Gathered s 0 (drop k l)
 unfolding Within set_of
-gathered_none D X l k e =
+gathered_none s l k n e =
     let z : drop k l ≡ [] = drop_of_length-le l {i = k} (omega arith) in
-    record { within_first = tt; used_by = omega arith; lists = rw z }
+    record { within_first = rw n tt; used_by = omega arith; lists = rw (z, n) }
 
 total_drop : (l : List (List ℕ)) (k : ℕ) → total (drop k l) ≤ total l
 unfolding total
@@ -112,17 +111,16 @@ total_drop [] (suc k) = omega arith
 total_drop (c ∷ l) zero = omega arith
 total_drop (c ∷ l) (suc k) = omega (arith, total_drop l k)
 
-pub gathered_more : (D X D' X' : List ℕ) (g r : Grown) (l : List (List ℕ)) (k : ℕ) → 0 < k → k ≤ length l → length (nth l (k - 1)) ≤ 1024 → total l ≤ 2048
-    → Gathered D X g (drop k l) → Grows D X g D' X' r (nth l (k - 1)) → Gathered D' X' r (drop (k - 1) l)
+pub gathered_more : (s s' : Set) (used used' : ℕ) (l : List (List ℕ)) (k : ℕ) → 0 < k → k ≤ length l → length (nth l (k - 1)) ≤ 1024 → total l ≤ 2048
+    → Gathered s used (drop k l) → Grows s used s' used' (nth l (k - 1)) → Gathered s' used' (drop (k - 1) l)
 unfolding total set_of
-gathered_more D X D' X' g r l k p h short t s go =
+gathered_more s s' used used' l k p h short t d go =
     let z : suc (k - 1) ≡ k = omega arith in
     let e : drop (k - 1) l ≡ nth l (k - 1) ∷ drop k l = rw z at (drop-cons l (k - 1) [] (omega arith)) in
     let f : total (drop (k - 1) l) ≡ length (nth l (k - 1)) + total (drop k l) = ap total e in
-    let b = go.grows short (omega (arith, total_drop l (k - 1))) s.within_first in
-    record { within_first = b.within; used_by = omega arith; lists = b.holds ∙ rw (s.lists, e) }
+    let b = go.grows short (omega (arith, f, d.used_by, total_drop l (k - 1))) d.within_first in
+    record { within_first = b.within; used_by = omega (arith, f, b.used_by, d.used_by); lists = b.holds ∙ rw (d.lists, e) }
 
 -- no raw clause of a plan in the table is too long for it
-pub short_enough : (S : List ℕ) (at : ℕ) (a : Plan) (rest : List ℕ) → length S ≡ 1024 → drop at S ≡ words a ++ rest → (k : ℕ) → length (nth (made a) k) ≤ 1024
-short_enough S at a rest len x k =
-    omega (arith, clause_short a k, words_length a, ap length x, length-append (words a) rest, length-drop at S)
+pub short_enough : (W : List ℕ) (a : Plan) (rest : List ℕ) → length W ≤ 1024 → W ≡ words a ++ rest → (k : ℕ) → length (nth (made a) k) ≤ 1024
+short_enough W a rest len x k = omega (arith, clause_short a k, words_length a, ap length x, length-append (words a) rest)

@@ -10,7 +10,7 @@ pub mod Placed
 pub mod Carry
 pub mod Raw
 pub mod Walking
-pub mod Comparing
+pub mod Orderings
 pub mod Searching
 pub mod Collecting
 pub mod Growing

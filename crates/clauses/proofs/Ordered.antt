@@ -3,7 +3,7 @@
 use mathlib.Core.Path.{◌≡◌, refl, sym, ap, ◌∙◌}
 use mathlib.Core.List.{List, ◌++◌, append_assoc}
 use Prim.Native.Nat.compare
-use Prim.Native.Nat.{ℕ, zero, suc, ◌+◌, ◌<◌, compare, Ordering}
+use Prim.Native.Nat.{ℕ, zero, suc, ◌+◌, min, compare, Ordering}
 use native.Mathlib.Omega.{arith}
 use Rattle.definitions.specs.Syntax.{Term, var, con, app, Terms, nil, cons, count}
 use Rattle.definitions.specs.Order.{Atom, rel, same_as, then, cmp_list, cmp_name, cmp_term, cmp_terms, cmp_atom}
@@ -30,19 +30,12 @@ due_same d zero (suc n) e = absurd (omega arith)
 due_same d (suc m) zero e = absurd (omega arith)
 due_same d (suc m) (suc n) e = omega (arith, due_same d m n (omega arith))
 
-pub due_fewer : (d m n : ℕ) → m < n → m ≡ due d m n
+pub due_least : (d m n : ℕ) → (m ≡ n → ⊥) → min m n ≡ due d m n
 unfolding due
-due_fewer d zero zero h = absurd (omega arith)
-due_fewer d zero (suc n) h = refl
-due_fewer d (suc m) zero h = absurd (omega arith)
-due_fewer d (suc m) (suc n) h = omega (arith, due_fewer d m n (omega arith))
-
-pub due_more : (d m n : ℕ) → n < m → n ≡ due d m n
-unfolding due
-due_more d zero zero h = absurd (omega arith)
-due_more d zero (suc n) h = absurd (omega arith)
-due_more d (suc m) zero h = refl
-due_more d (suc m) (suc n) h = omega (arith, due_more d m n (omega arith))
+due_least d zero zero h = absurd (h refl)
+due_least d zero (suc n) h = omega arith
+due_least d (suc m) zero h = omega arith
+due_least d (suc m) (suc n) h = omega (arith, due_least d m n (λ e. h (ap suc e)))
 
 -- terms, and lists of them: those that are due, and then what is due behind
 mutual

@@ -2,13 +2,14 @@
 -- search finds then says what insertion makes of the list, and which place is the first that compares as the same.
 use mathlib.Core.Path.{◌≡◌, refl, sym, ap, ◌∙◌}
 use mathlib.Core.Logic.{◌⊎◌, inl, inr, ⊎_elim}
-use mathlib.Core.Bool.{Bool, true, false}
+use mathlib.Core.Bool.{true}
 use mathlib.Core.List.{List, [], ◌∷◌, ◌++◌}
 use Prim.Native.Nat.{ℕ, zero, suc, ◌+◌, ◌<◌, ◌≤◌, compare, Ordering}
 use native.Mathlib.Omega.{arith}
+use Rattle.std.proofs.lemmas.List.{get_or_default}
 use lib.Dec.{compare_is_eq}
 use lib.ListN.{length, take, drop, get_or}
-use lib.Seq.{get_or-take, length-take-le, take-take}
+use lib.Seq.{length-take-le, take-take}
 use Rattle.definitions.specs.Truth.{every}
 use Rattle.definitions.specs.Order.{insert}
 use Rattle.definitions.proofs.Laws.Bools.{clash, and_true_left, and_true_right}
@@ -17,9 +18,16 @@ use Rattle.definitions.proofs.Laws.Order.{compare_orders}
 use Rattle.definitions.specs.Laws.Sorted.{above, sorted}
 use Rattle.clauses.specs.Each.{Each, none, more}
 use Rattle.clauses.specs.Ranks.{seek}
-use Rattle.clauses.specs.Search.{Falls, Finds}
+use Rattle.std.specs.Prelude.{Result, Ok, Err}
+use Rattle.std.specs.declared.cmp.Ordering.{Ordering as Answer}
+use Rattle.std.specs.declared.cmp.Ordering.TheVariants as answers
+use Rattle.std.specs.Ordering.{ordering_index}
+use Rattle.std.specs.Result.{result_unwrap_or}
+use Rattle.std.specs.List.Sorted.{IsBinarySearchResult, IsSearchInRange}
+use Rattle.clauses.specs.Search.{Falls, Found, Missing, Finds}
 use Rattle.clauses.proofs.Carry.{mid}
 use Rattle.clauses.proofs.Numbers.{either_way}
+use Rattle.clauses.proofs.Orderings.{turned}
 
 pub less_is : (o : Ordering) → Less o → o ≡ Ordering.lt
 less_is Ordering.lt h = refl
@@ -66,113 +74,108 @@ numbers_fall x l h = sorted_falls compare_orders (compare x) x (λ w b e. ap (co
     themselves [] = none
     themselves (y ∷ l) = more refl (themselves l)
 
--- The search: what stands before `low` comes first, and what stands from `high` on comes later.
-pub record Between (c : ℕ → Ordering) (l : List ℕ) (low high : ℕ) : Type 0 where
-  pub after : (k : ℕ) → k < low → c (get_or l k 0) ≡ Ordering.gt
-  pub before : (k : ℕ) → high ≤ k → k < length l → c (get_or l k 0) ≡ Ordering.lt
+-- What std's binary search answers, where the list falls for what is sought.
+module _ (c : ℕ → Ordering) (l : List ℕ) (f : Falls c l) (answer : ℕ → Answer) (same : (w : ℕ) → answer w ≡ turned (c w)) where
+  turned_lt : (w : ℕ) → turned (c w) ≡ answers.Greater → c w ≡ Ordering.lt
+  turned_lt w e = go (c w) e
+    where
+      go : (o : Ordering) → turned o ≡ answers.Greater → o ≡ Ordering.lt
+      go Ordering.lt e = refl
+      go Ordering.eq e = cc
+      go Ordering.gt e = cc
 
-module _ (c : ℕ → Ordering) (X : List ℕ) (n : ℕ) (room : n ≤ length X) where
-  pub between_all : Between c (take n X) 0 n
-  between_all = record { after = λ k h. absurd (omega arith); before = λ k h g. absurd (omega (arith, length-take-le n X room)) }
+  turned_eq : (w : ℕ) → turned (c w) ≡ answers.Equal → c w ≡ Ordering.eq
+  turned_eq w e = go (c w) e
+    where
+      go : (o : Ordering) → turned o ≡ answers.Equal → o ≡ Ordering.eq
+      go Ordering.lt e = cc
+      go Ordering.eq e = refl
+      go Ordering.gt e = cc
 
-  pub between_none : (low high : ℕ) → low ≡ high → Between c (take n X) low high → Finds c (take n X) low false
-  between_none low high e b = record {
-    inside = λ f. clash f refl;
-    same = λ f. clash f refl;
-    after = b.after;
-    before = λ f k h g. b.before k (omega arith) g;
+  turned_gt : (w : ℕ) → turned (c w) ≡ answers.Less → c w ≡ Ordering.gt
+  turned_gt w e = go (c w) e
+    where
+      go : (o : Ordering) → turned o ≡ answers.Less → o ≡ Ordering.gt
+      go Ordering.lt e = cc
+      go Ordering.eq e = cc
+      go Ordering.gt e = refl
+
+  -- the answers rise
+  rise : (i j : ℕ) (d : ℕ) → i ≤ j → j < length l → ordering_index (answer (get_or l i d)) ≤ ordering_index (answer (get_or l j d))
+  rise i j d h k =
+      let x : get_or l i d ≡ get_or l i 0 = get_or_default l i d 0 (omega arith) in
+      let y : get_or l j d ≡ get_or l j 0 = get_or_default l j d 0 k in
+      rw (x, y, same (get_or l i 0), same (get_or l j 0))
+      (either_way j i (λ g. let z : i ≡ j = omega arith in rw z (omega arith))
+      (λ g. ⊎_elim (λ e. rw e (omega arith)) (λ e. rw e (most (turned (c (get_or l i 0))))) (f.either i j g k)))
+    where
+      most : (r : Answer) → ordering_index r ≤ 2
+      most answers.Less = omega arith
+      most answers.Equal = omega arith
+      most answers.Greater = omega arith
+
+  pub searched : (r : Result ℕ ℕ) → IsSearchInRange r (length l) → IsBinarySearchResult answer l r → Finds c l r
+  searched (Ok i) h s = record {
+    inside = h;
+    same = here;
+    after = λ k g. ⊎_elim (λ x. x) (λ x. cc (x, here)) (f.either k i g h);
+  }
+    where
+      here : c (get_or l i 0) ≡ Ordering.eq
+      here = turned_eq (get_or l i 0) (sym (same (get_or l i 0)) ∙ s 0)
+  searched (Err i) h s = record {
+    after = λ k g. turned_gt (get_or l k 0) (sym (same (get_or l k 0)) ∙ (s rise).0 k 0 (omega arith) g);
+    before = λ k g n. turned_lt (get_or l k 0) (sym (same (get_or l k 0)) ∙ (s rise).1 k 0 g n);
   }
 
-  module _ (f : Falls c (take n X)) (low high m : ℕ) (b : Between c (take n X) low high) (here : m < n) where
-    inside : m < length (take n X)
-    inside = omega (arith, length-take-le n X room)
-
-    read : get_or (take n X) m 0 ≡ get_or X m 0
-    read = get_or-take n X m 0 here
-
-    -- an element that the sought one does not come before has only such before it that it comes after
-    after_them : is_less (c (get_or X m 0)) ≡ false → (k : ℕ) → k < m → c (get_or (take n X) k 0) ≡ Ordering.gt
-    after_them h k l = ⊎_elim (λ x. x) (λ x. clash (ap is_less (ap c (sym read) ∙ x)) h) (f.either k m l inside)
-
-    pub between_above : c (get_or X m 0) ≡ Ordering.gt → Between c (take n X) (m + 1) high
-    between_above e = record { after = λ k h. below k h; before = b.before }
-      where
-        below : (k : ℕ) → k < m + 1 → c (get_or (take n X) k 0) ≡ Ordering.gt
-        below k h = either_way m k (λ g. let z : k ≡ m = omega arith in rw z (ap c read ∙ e)) (λ g. after_them (ap is_less e) k g)
-
-    pub between_below : c (get_or X m 0) ≡ Ordering.lt → Between c (take n X) low m
-    between_below e = record { after = b.after; before = λ k h g. above k h g }
-      where
-        above : (k : ℕ) → m ≤ k → k < length (take n X) → c (get_or (take n X) k 0) ≡ Ordering.lt
-        above k h g =
-            either_way k m (λ i. let z : k ≡ m = omega arith in rw z (ap c read ∙ e))
-            (λ i. ⊎_elim (λ x. clash (ap is_less e) (ap is_less (ap c (sym read) ∙ x))) (λ x. x) (f.either m k i g))
-
-    pub between_same : c (get_or X m 0) ≡ Ordering.eq → Finds c (take n X) m true
-    between_same e = record {
-      inside = λ t. inside;
-      same = λ t. ap c read ∙ e;
-      after = after_them (ap is_less e);
-      before = λ t. clash refl t;
-    }
-
 -- What follows from where the sought one stands.
-finds_rest : {c : ℕ → Ordering} {y : ℕ} {l : List ℕ} {i : ℕ} {found : Bool} → Finds c (y ∷ l) (suc i) found → Finds c l i found
-finds_rest s = record {
-  inside = λ t. omega (arith, s.inside t);
-  same = s.same;
-  after = λ k h. s.after (suc k) (omega arith);
-  before = λ t k h g. s.before t (suc k) (omega arith) (omega arith);
-}
+found_rest : {c : ℕ → Ordering} {y : ℕ} {l : List ℕ} {i : ℕ} → Found c (y ∷ l) (suc i) → Found c l i
+found_rest s = record { inside = omega (arith, s.inside); same = s.same; after = λ k h. s.after (suc k) (omega arith) }
+
+missing_rest : {c : ℕ → Ordering} {y : ℕ} {l : List ℕ} {i : ℕ} → Missing c (y ∷ l) (suc i) → Missing c l i
+missing_rest s = record { after = λ k h. s.after (suc k) (omega arith); before = λ k h g. s.before (suc k) (omega arith) (omega arith) }
 
 module _ (cmp : ℕ → ℕ → Ordering) (x : ℕ) where
-  insert_there : (l : List ℕ) (i : ℕ) → Finds (cmp x) l i true → l ≡ insert cmp x l
+  pub insert_there : (l : List ℕ) (i : ℕ) → Found (cmp x) l i → l ≡ insert cmp x l
   unfolding insert
-  insert_there [] i s = absurd (omega (arith, s.inside refl))
-  insert_there (y ∷ l) zero s = rw (s.same refl)
-  insert_there (y ∷ l) (suc i) s = rw (s.after 0 (omega arith)) (ap (λ (r : List ℕ). y ∷ r) (insert_there l i (finds_rest s)))
+  insert_there [] i s = absurd (omega (arith, s.inside))
+  insert_there (y ∷ l) zero s = rw s.same
+  insert_there (y ∷ l) (suc i) s = rw (s.after 0 (omega arith)) (ap (λ (r : List ℕ). y ∷ r) (insert_there l i (found_rest s)))
 
-  insert_new : (l : List ℕ) (i : ℕ) → i ≤ length l → Finds (cmp x) l i false → take i l ++ (x ∷ drop i l) ≡ insert cmp x l
+  insert_new : (l : List ℕ) (i : ℕ) → i ≤ length l → Missing (cmp x) l i → take i l ++ (x ∷ drop i l) ≡ insert cmp x l
   unfolding insert
   insert_new [] zero h s = refl
   insert_new [] (suc i) h s = absurd (omega arith)
-  insert_new (y ∷ l) zero h s = rw (s.before refl 0 (omega arith) (omega arith))
-  insert_new (y ∷ l) (suc i) h s = rw (s.after 0 (omega arith)) (ap (λ (r : List ℕ). y ∷ r) (insert_new l i (omega arith) (finds_rest s)))
+  insert_new (y ∷ l) zero h s = rw (s.before 0 (omega arith) (omega arith))
+  insert_new (y ∷ l) (suc i) h s = rw (s.after 0 (omega arith)) (ap (λ (r : List ℕ). y ∷ r) (insert_new l i (omega arith) (missing_rest s)))
 
-  module _ (X : List ℕ) (n i : ℕ) (found : Bool) (s : Finds (cmp x) (take n X) i found) where
-    pub put_nowhere : found ≡ true → take n X ≡ insert cmp x (take n X)
-    put_nowhere t = insert_there (take n X) i (rw t at s)
-
-    pub put_in : found ≡ false → i ≤ n → n ≤ length X → (Y : List ℕ) → take (n + 1) Y ≡ take i X ++ (x ∷ mid i n X)
-        → take (n + 1) Y ≡ insert cmp x (take n X)
-    put_in t h room Y e =
-        e ∙ ap (λ (l : List ℕ). l ++ (x ∷ mid i n X)) (sym (take-take i n X h))
-        ∙ insert_new (take n X) i (omega (arith, length-take-le n X room)) (rw t at s)
+  pub put_in : (X : List ℕ) (n i : ℕ) → Missing (cmp x) (take n X) i → i ≤ n → n ≤ length X → (Y : List ℕ)
+      → take (n + 1) Y ≡ take i X ++ (x ∷ mid i n X) → take (n + 1) Y ≡ insert cmp x (take n X)
+  put_in X n i s h room Y e =
+      e ∙ ap (λ (l : List ℕ). l ++ (x ∷ mid i n X)) (sym (take-take i n X h))
+      ∙ insert_new (take n X) i (omega (arith, length-take-le n X room)) s
 
 module _ (c : ℕ → Ordering) where
-  seek_there : (l : List ℕ) (i : ℕ) → Finds c l i true → i ≡ seek (λ w. compare_is_eq (c w)) l
+  seek_there : (l : List ℕ) (i : ℕ) → Found c l i → i ≡ seek (λ w. compare_is_eq (c w)) l
   unfolding seek
-  seek_there [] i s = absurd (omega (arith, s.inside refl))
-  seek_there (y ∷ l) zero s = rw (s.same refl)
-  seek_there (y ∷ l) (suc i) s = rw (s.after 0 (omega arith)) (ap suc (seek_there l i (finds_rest s)))
+  seek_there [] i s = absurd (omega (arith, s.inside))
+  seek_there (y ∷ l) zero s = rw s.same
+  seek_there (y ∷ l) (suc i) s = rw (s.after 0 (omega arith)) (ap suc (seek_there l i (found_rest s)))
 
-  seek_nowhere : (l : List ℕ) (i : ℕ) → Finds c l i false → length l ≡ seek (λ w. compare_is_eq (c w)) l
+  seek_nowhere : (l : List ℕ) (i : ℕ) → Missing c l i → length l ≡ seek (λ w. compare_is_eq (c w)) l
   unfolding seek
   seek_nowhere [] i s = refl
-  seek_nowhere (y ∷ l) zero s = rw (s.before refl 0 (omega arith) (omega arith)) (ap suc (seek_nowhere l 0 later))
+  seek_nowhere (y ∷ l) zero s = rw (s.before 0 (omega arith) (omega arith)) (ap suc (seek_nowhere l 0 later))
     where
-      later : Finds c l 0 false
-      later = record {
-        inside = λ t. clash t refl;
-        same = λ t. clash t refl;
-        after = λ k h. absurd (omega arith);
-        before = λ t k h g. s.before t (suc k) (omega arith) (omega arith);
-      }
-  seek_nowhere (y ∷ l) (suc i) s = rw (s.after 0 (omega arith)) (ap suc (seek_nowhere l i (finds_rest s)))
+      later : Missing c l 0
+      later = record { after = λ k h. absurd (omega arith); before = λ k h g. s.before (suc k) (omega arith) (omega arith) }
+  seek_nowhere (y ∷ l) (suc i) s = rw (s.after 0 (omega arith)) (ap suc (seek_nowhere l i (missing_rest s)))
 
-  module _ (X : List ℕ) (n i : ℕ) (found : Bool) (s : Finds c (take n X) i found) where
-    pub seek_found : found ≡ true → i ≡ seek (λ w. compare_is_eq (c w)) (take n X)
-    seek_found t = seek_there (take n X) i (rw t at s)
+  -- the place that is found, or the number of them all
+  pub sought : (l : List ℕ) (r : Result ℕ ℕ) → Finds c l r → result_unwrap_or r (length l) ≡ seek (λ w. compare_is_eq (c w)) l
+  sought l (Ok i) s = seek_there l i s
+  sought l (Err i) s = seek_nowhere l i s
 
-    pub seek_none : found ≡ false → n ≤ length X → n ≡ seek (λ w. compare_is_eq (c w)) (take n X)
-    seek_none t room = sym (length-take-le n X room) ∙ seek_nowhere (take n X) i (rw t at s)
+pub within : (n : ℕ) (r : Result ℕ ℕ) → IsSearchInRange r n → result_unwrap_or r n ≤ n
+within n (Ok i) h = omega arith
+within n (Err i) h = omega arith

@@ -4,10 +4,9 @@ use mathlib.Core.Path.{◌≡◌, refl, sym, ap, ◌∙◌}
 use mathlib.Core.List.{List, [], ◌∷◌, ◌++◌, append_assoc, append-nil}
 use Prim.Native.Nat.{ℕ, zero, suc, ◌+◌, ◌*◌, ◌/◌, ◌%◌, ◌-◌, ◌<◌, ◌≤◌, compare}
 use native.Mathlib.Omega.{arith}
-use native.Mathlib.Numerals.{add-one}
 use native.Mathlib.Nat.{div-eq_of_lt, mod-eq_of_lt, div-lt_iff_lt-mul, mod-lt, min-eq_left, mul-zero, div-le_self, mod-le}
-use lib.ListN.{length, take, drop, get_or, length-append, length-drop, get_or-append, drop_of_length-le}
-use lib.Seq.{drop-cons, drop-drop, drop_at, length-take-le}
+use lib.ListN.{length, take, drop, get_or, length-append, get_or-append}
+use lib.Seq.{drop_at, length-take-le}
 use Rattle.definitions.specs.Order.{insert, set_of}
 use Rattle.definitions.proofs.Laws.Order.{compare_orders}
 use Rattle.definitions.proofs.Laws.Sorted.{set_of_sorted, set_of_last, set_of_length}
@@ -86,20 +85,6 @@ module _ (l n : Plan) (i c : ℕ) where
         nth_joined (made l) (made n) i p f ∙ rw (g, d.0, d.1),
       )
 
--- what stands at a plan's place
-pub record Stands (S : List ℕ) (at : ℕ) (p : Plan) (rest : List ℕ) : Type 0 where
-  pub first_word : get_or S at 0 ≡ head p
-  pub behind_it : drop (at + 1) S ≡ below p ++ rest
-  pub fits : at + size p ≤ 1024
-
-pub enter : (S : List ℕ) (at : ℕ) → length S ≡ 1024 → at < 1024 → (p : Plan) (rest : List ℕ) → drop at S ≡ words p ++ rest → Stands S at p rest
-enter S at l h p rest x =
-    let y : get_or S at 0 ∷ drop (suc at) S ≡ head p ∷ (below p ++ rest) = sym (drop-cons S at 0 (omega arith)) ∙ x ∙ ap (λ (c : List ℕ). c ++ rest) (words_split p) in
-    record { first_word = cc; behind_it = rw add-one (cc); fits = omega (arith, length-drop at S, ap length x, length-append (words p) rest, words_length p) }
-
-pub past_end : (S : List ℕ) (at : ℕ) → length S ≡ 1024 → 1024 ≤ at → (p : Plan) (rest : List ℕ) → drop at S ≡ words p ++ rest → ⊥
-past_end S at l h p rest x = omega (arith, simp (drop_of_length-le S {i = at} (omega arith), words_split p, length-append) at (ap length x))
-
 -- which plan it is, by its form
 is_leaf : (p : Plan) → form p ≡ 1 → (n : ℕ) × (p ≡ leaf n)
 is_leaf none h = absurd (omega arith)
@@ -131,118 +116,116 @@ constant_nth (leaf n) k h = absurd (omega arith)
 constant_nth (sum a b) k h = absurd (omega arith)
 constant_nth (product a b) k h = absurd (omega arith)
 
--- the two parts of a node, where they stand and what their first words say
-record Parts (S : List ℕ) (left right : ℕ) (a b : Plan) (rest : List ℕ) : Type 0 where
-  pub left_at : drop left S ≡ words a ++ (words b ++ rest)
-  pub right_at : drop right S ≡ words b ++ rest
-  pub left_count : clauses_of (get_or S left 0) ≡ clamped (counts a).clauses
-  pub right_count : clauses_of (get_or S right 0) ≡ clamped (counts b).clauses
+-- the two parts of a node, what their first words say, and where the second begins
+record Parts (W : List ℕ) (a b : Plan) (rest : List ℕ) : Type 0 where
+  pub left_at : W ≡ words a ++ (words b ++ rest)
+  pub right_at : drop (size_of (get_or W 0 0)) W ≡ words b ++ rest
+  pub left_count : clauses_of (get_or W 0 0) ≡ clamped (counts a).clauses
+  pub right_count : clauses_of (get_or (drop (size_of (get_or W 0 0)) W) 0 0) ≡ clamped (counts b).clauses
 
-parts : (S : List ℕ) (left : ℕ) (a b : Plan) (rest : List ℕ) → length S ≡ 1024 → drop left S ≡ (words a ++ words b) ++ rest
-    → Parts S left (left + size_of (get_or S left 0)) a b rest
-parts S left a b rest len x = record { left_at = here; right_at = there; left_count = ap clauses_of word_a ∙ head_clauses a (omega (arith, room)); right_count = ap clauses_of word_b ∙ head_clauses b (omega (arith, room)) }
+first_of : (W : List ℕ) (p : Plan) (rest : List ℕ) → W ≡ words p ++ rest → get_or W 0 0 ≡ head p
+first_of W p rest x = ap (λ (l : List ℕ). get_or l 0 0) (x ∙ ap (λ (l : List ℕ). l ++ rest) (words_split p))
+
+parts : (W : List ℕ) (a b : Plan) (rest : List ℕ) → size a + size b ≤ 1024 → W ≡ (words a ++ words b) ++ rest → Parts W a b rest
+parts W a b rest room x = record {
+  left_at = here;
+  right_at = there;
+  left_count = ap clauses_of (first_of W a (words b ++ rest) here) ∙ head_clauses a (omega arith);
+  right_count = ap clauses_of (first_of (drop (size_of (get_or W 0 0)) W) b rest there) ∙ head_clauses b (omega arith);
+}
   where
-    here : drop left S ≡ words a ++ (words b ++ rest)
+    here : W ≡ words a ++ (words b ++ rest)
     here = x ∙ append_assoc (words a) (words b) rest
 
-    some : (p : Plan) → 0 < size p
-    some p = omega (arith, words_length p, ap length (words_split p))
+    long : size_of (get_or W 0 0) ≡ size a
+    long = ap size_of (first_of W a (words b ++ rest) here) ∙ head_size a (omega arith)
 
-    room : left + (size a + size b) ≤ 1024
-    room = omega (arith, some a, length-drop left S, ap length here, length-append (words a) (words b ++ rest), length-append (words b) rest, words_length a, words_length b)
+    there : drop (size_of (get_or W 0 0)) W ≡ words b ++ rest
+    there = rw long (ap (drop (size a)) here ∙ drop_at (words a) (words b ++ rest) (size a) (words_length a))
 
-    word_a : get_or S left 0 ≡ head a
-    word_a =
-        let y : get_or S left 0 ∷ drop (suc left) S ≡ head a ∷ (below a ++ (words b ++ rest)) =
-        sym (drop-cons S left 0 (omega (arith, some a, room))) ∙ here ∙ ap (λ (c : List ℕ). c ++ (words b ++ rest)) (words_split a) in
-        cc
+-- a plan has words
+pub no_words : (W : List ℕ) (p : Plan) (rest : List ℕ) → W ≡ words p ++ rest → length W ≡ 0 → ⊥
+no_words W p rest x e = omega (arith, ap length x, length-append (words p) rest, ap length (words_split p))
 
-    right_is : left + size_of (get_or S left 0) ≡ left + size a
-    right_is = ap (λ (w : ℕ). left + size_of w) word_a ∙ rw (head_size a (omega (arith, room)))
+-- the words of a plan, and others behind them
+module _ (W : List ℕ) (len : length W ≤ 1024) (word : ℕ) (left : List ℕ) (split : W ≡ word ∷ left) (p : Plan) (rest : List ℕ) (x : W ≡ words p ++ rest)
+    (i : ℕ) (i< : i < length (made p)) (small : i < 2049) where
+  whole : word ∷ left ≡ head p ∷ (below p ++ rest)
+  whole = sym split ∙ x ∙ ap (λ (l : List ℕ). l ++ rest) (words_split p)
 
-    there : drop (left + size_of (get_or S left 0)) S ≡ words b ++ rest
-    there = rw (right_is, ← drop-drop (size a) left S, here) (drop_at (words a) (words b ++ rest) (size a) (words_length a))
+  fits : size p ≤ 1024
+  fits = omega (arith, ap length x, length-append (words p) rest, words_length p)
 
-    word_b : get_or S (left + size_of (get_or S left 0)) 0 ≡ head b
-    word_b =
-        let right = left + size_of (get_or S left 0) in
-        let y : get_or S right 0 ∷ drop (suc right) S ≡ head b ∷ (below b ++ rest) =
-        sym (drop-cons S right 0 (omega (arith, right_is, some b, room))) ∙ there ∙ ap (λ (c : List ℕ). c ++ rest) (words_split b) in
-        cc
+  first_word : word ≡ head p
+  first_word = ap (λ (l : List ℕ). get_or l 0 0) whole
 
-module _ (S : List ℕ) (at : ℕ) (len : length S ≡ 1024) (inside : at < 1024) (p : Plan) (rest : List ℕ) (x : drop at S ≡ words p ++ rest) (i : ℕ) (i< : i < length (made p)) (small : i < 2049) where
-  s : Stands S at p rest
-  s = enter S at len inside p rest x
+  behind_it : left ≡ below p ++ rest
+  behind_it = ap (drop 1) whole
 
-  form_at : form_of (get_or S at 0) ≡ form p
-  form_at = ap form_of s.first_word ∙ head_form p (omega (arith, s.fits))
+  form_at : form_of word ≡ form p
+  form_at = ap form_of first_word ∙ head_form p (omega (arith, fits))
 
-  pub walk_constant : (O : List ℕ) (u : ℕ) → form_of (get_or S at 0) < 1 → Walked O u O u (nth (made p) i)
-  walk_constant O u h = walked_as (constant_nth p i (omega (arith, form_at))) (walked_none O u)
+  pub walk_constant : (O : List ℕ) (u : ℕ) → form_of word ≡ 0 → Walked O u O u (nth (made p) i)
+  walk_constant O u h = walked_as (constant_nth p i (sym form_at ∙ h)) (walked_none O u)
 
-  pub walk_leaf : {O O' : List ℕ} {u r v : ℕ} → form_of (get_or S at 0) ≡ 1 → v ≡ number_of (get_or S at 0) → Walked O u O' r (v ∷ []) → Walked O u O' r (nth (made p) i)
+  pub walk_leaf : {O O' : List ℕ} {u r v : ℕ} → form_of word ≡ 1 → v ≡ number_of word → Walked O u O' r (v ∷ []) → Walked O u O' r (nth (made p) i)
   unfolding made size
   walk_leaf {v = v} h e t =
       let b = is_leaf p (sym form_at ∙ h) in
-      let n : v ≡ b.0 = e ∙ ap number_of (s.first_word ∙ ap head b.1) ∙ head_number (leaf b.0) (omega arith) in
+      let n : v ≡ b.0 = e ∙ ap number_of (first_word ∙ ap head b.1) ∙ head_number (leaf b.0) (omega arith) in
       let l : i < length (made (leaf b.0)) = rw b.1 at i< in
       let z : i ≡ 0 = omega arith in
       walked_as (ap (λ (q : Plan). nth (made q) i) b.1 ∙ rw z (ap (λ (m : ℕ). m ∷ []) (sym n))) t
 
-  -- the first word of the first part, its size and its count, as they are read
-  module _ (a size-a right : ℕ) (read : a ≡ get_or S (at + 1) 0) (sized : size-a ≡ size_of a) (right_is : right ≡ at + 1 + size-a) where
-    beside : (l n : Plan) → drop (at + 1) S ≡ (words l ++ words n) ++ rest → Parts S (at + 1) right l n rest
-    beside l n e =
-        let z : right ≡ at + 1 + size_of (get_or S (at + 1) 0) = right_is ∙ ap (λ (k : ℕ). at + 1 + k) (sized ∙ ap size_of read) in
-        rw z (parts S (at + 1) l n rest len e)
+  module _ (h : form_of word ≡ 2) where
+    node : (l : Plan) × (n : Plan) × (p ≡ sum l n)
+    node = is_sum p (sym form_at ∙ h)
 
-    module _ (h : form_of (get_or S at 0) ≡ 2) (c : ℕ) (c-is : c ≡ clauses_of a) where
-      node : (l : Plan) × (n : Plan) × (p ≡ sum l n)
-      node = is_sum p (sym form_at ∙ h)
+    two : Parts left node.0 node.1 rest
+    unfolding size
+    two = let f : size (sum node.0 node.1) ≤ 1024 = rw node.2 at fits in parts left node.0 node.1 rest (omega arith) (rw node.2 at behind_it)
 
-      two : Parts S (at + 1) right node.0 node.1 rest
-      two = beside node.0 node.1 (rw node.2 at s.behind_it)
+    as_sum : nth (made p) i ≡ nth (made (sum node.0 node.1)) i
+    as_sum = ap (λ (q : Plan). nth (made q) i) node.2
 
-      as_sum : nth (made p) i ≡ nth (made (sum node.0 node.1)) i
-      as_sum = ap (λ (q : Plan). nth (made q) i) node.2
-
-      counted : c ≡ clamped (counts node.0).clauses
-      counted = c-is ∙ ap clauses_of read ∙ two.left_count
-
+    module _ (c : ℕ) (c-is : c ≡ clauses_of (get_or left 0 0)) where
       pub walk_left : {O O' : List ℕ} {u r : ℕ} → i < c
-          → ((p : Plan) (rest : List ℕ) → drop (at + 1) S ≡ words p ++ rest → i < length (made p) → i < 2049 → Walked O u O' r (nth (made p) i))
+          → ((p : Plan) (rest : List ℕ) → left ≡ words p ++ rest → i < length (made p) → i < 2049 → Walked O u O' r (nth (made p) i))
           → Walked O u O' r (nth (made p) i)
       walk_left l go =
-          let b = sum_left node.0 node.1 i c counted l in
+          let b = sum_left node.0 node.1 i c (c-is ∙ two.left_count) l in
           walked_as (as_sum ∙ b.1) (go node.0 (words node.1 ++ rest) two.left_at b.0 small)
 
-      pub walk_right : {O O' : List ℕ} {u r : ℕ} → c ≤ i
-          → ((p : Plan) (rest : List ℕ) → drop right S ≡ words p ++ rest → i - c < length (made p) → i - c < 2049 → Walked O u O' r (nth (made p) (i - c)))
+      pub walk_right : (right : List ℕ) → right ≡ drop (size_of (get_or left 0 0)) left → {O O' : List ℕ} {u r : ℕ} → c ≤ i
+          → ((p : Plan) (rest : List ℕ) → right ≡ words p ++ rest → i - c < length (made p) → i - c < 2049 → Walked O u O' r (nth (made p) (i - c)))
           → Walked O u O' r (nth (made p) i)
-      walk_right l go =
-          let b = sum_right node.0 node.1 i c counted l small (rw node.2 at i<) in
-          walked_as (as_sum ∙ b.1) (go node.1 rest two.right_at b.0 (omega arith))
+      walk_right right e l go =
+          let b = sum_right node.0 node.1 i c (c-is ∙ two.left_count) l small (rw node.2 at i<) in
+          walked_as (as_sum ∙ b.1) (go node.1 rest (e ∙ two.right_at) b.0 (omega arith))
 
-    module _ (h : form_of (get_or S at 0) ≡ 3) (b c : ℕ) (read-b : b ≡ get_or S right 0) (c-is : c ≡ clauses_of b) where
-      pair_node : (l : Plan) × (n : Plan) × (p ≡ product l n)
-      pair_node = is_product p (sym form_at ∙ h)
+  module _ (h : form_of word ≡ 3) (right : List ℕ) (e : right ≡ drop (size_of (get_or left 0 0)) left) (c : ℕ) (c-is : c ≡ clauses_of (get_or right 0 0)) where
+    pair_node : (l : Plan) × (n : Plan) × (p ≡ product l n)
+    pair_node = is_product p (sym form_at ∙ h)
 
-      two_parts : Parts S (at + 1) right pair_node.0 pair_node.1 rest
-      two_parts = beside pair_node.0 pair_node.1 (rw pair_node.2 at s.behind_it)
+    two_parts : Parts left pair_node.0 pair_node.1 rest
+    unfolding size
+    two_parts =
+        let f : size (product pair_node.0 pair_node.1) ≤ 1024 = rw pair_node.2 at fits in
+        parts left pair_node.0 pair_node.1 rest (omega arith) (rw pair_node.2 at behind_it)
 
-      pair : (0 < c) × (i / c < length (made pair_node.0)) × (i % c < length (made pair_node.1))
-          × (nth (made (product pair_node.0 pair_node.1)) i ≡ nth (made pair_node.0) (i / c) ++ nth (made pair_node.1) (i % c))
-      pair = product_pair pair_node.0 pair_node.1 i c (c-is ∙ ap clauses_of read-b ∙ two_parts.right_count) small (rw pair_node.2 at i<)
+    pair : (0 < c) × (i / c < length (made pair_node.0)) × (i % c < length (made pair_node.1))
+        × (nth (made (product pair_node.0 pair_node.1)) i ≡ nth (made pair_node.0) (i / c) ++ nth (made pair_node.1) (i % c))
+    pair = product_pair pair_node.0 pair_node.1 i c (c-is ∙ ap (λ (l : List ℕ). clauses_of (get_or l 0 0)) e ∙ two_parts.right_count) small (rw pair_node.2 at i<)
 
-      pub walk_empty : c ≡ 0 → ⊥
-      walk_empty z = omega (arith, pair.0)
+    pub walk_empty : c ≡ 0 → ⊥
+    walk_empty z = omega (arith, pair.0)
 
-      pub walk_both : {O O₁ O₂ : List ℕ} {u r₁ r₂ : ℕ}
-          → ((p : Plan) (rest : List ℕ) → drop (at + 1) S ≡ words p ++ rest → i / c < length (made p) → i / c < 2049 → Walked O u O₁ r₁ (nth (made p) (i / c)))
-          → ((p : Plan) (rest : List ℕ) → drop right S ≡ words p ++ rest → i % c < length (made p) → i % c < 2049 → Walked O₁ r₁ O₂ r₂ (nth (made p) (i % c)))
-          → Walked O u O₂ r₂ (nth (made p) i)
-      walk_both go go_on =
-          walked_as (ap (λ (q : Plan). nth (made q) i) pair_node.2 ∙ pair.3)
-          (walked_both
-          (go pair_node.0 (words pair_node.1 ++ rest) two_parts.left_at pair.1 (omega (arith, div-le_self i c)))
-          (go_on pair_node.1 rest two_parts.right_at pair.2 (omega (arith, mod-le i c))))
+    pub walk_both : {O O₁ O₂ : List ℕ} {u r₁ r₂ : ℕ}
+        → ((p : Plan) (rest : List ℕ) → left ≡ words p ++ rest → i / c < length (made p) → i / c < 2049 → Walked O u O₁ r₁ (nth (made p) (i / c)))
+        → ((p : Plan) (rest : List ℕ) → right ≡ words p ++ rest → i % c < length (made p) → i % c < 2049 → Walked O₁ r₁ O₂ r₂ (nth (made p) (i % c)))
+        → Walked O u O₂ r₂ (nth (made p) i)
+    walk_both go go_on =
+        walked_as (ap (λ (q : Plan). nth (made q) i) pair_node.2 ∙ pair.3)
+        (walked_both
+        (go pair_node.0 (words pair_node.1 ++ rest) two_parts.left_at pair.1 (omega (arith, div-le_self i c)))
+        (go_on pair_node.1 rest (e ∙ two_parts.right_at) pair.2 (omega (arith, mod-le i c))))

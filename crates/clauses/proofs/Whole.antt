@@ -1,15 +1,15 @@
 -- A whole table that holds a matrix: its plan, its atoms, and the set that is gathered from the two.
 use mathlib.Core.Path.{◌≡◌, refl, sym, ap, ◌∙◌}
 use mathlib.Core.Bool.{true, false, ◌||◌}
-use mathlib.Core.List.{List, [], ◌∷◌, ◌++◌, map, append-nil}
-use Prim.Native.Nat.{ℕ, suc, ◌<◌, ◌≤◌, min, compare}
+use mathlib.Core.List.{List, [], ◌++◌, map, append-nil}
+use Prim.Native.Nat.{ℕ, ◌<◌, ◌≤◌, min, compare}
 use native.Mathlib.Omega.{arith}
 use lib.Dec.{ltb}
-use lib.ListN.{length, take, drop, get_or, length-map, length-drop, take-append-drop}
-use lib.Seq.{drop-cons, length-take-le}
+use lib.ListN.{length, length-take, take, drop, get_or, length-map}
 use borrow.Author.Tests.{lt-ltb, le-ltb}
 use Rattle.definitions.specs.Bytes.{Bytes}
 use Rattle.definitions.specs.Syntax.{Quant, Formula, weight}
+use Rattle.definitions.specs.Limits.{house}
 use Rattle.definitions.specs.Prenex.{no_block}
 use Rattle.definitions.specs.Order.{Atom, cmp_atom, cmp_literal, set_of}
 use Rattle.definitions.specs.Clauses.{distribute, clauses, raw, atom_formula}
@@ -21,10 +21,7 @@ use Rattle.definitions.proofs.Laws.Counts.{distribute_length, distribute_total}
 use Rattle.definitions.specs.Laws.Shapes.{negated, ready}
 use Rattle.text.specs.Words.{Token, tokens, token, kind_of_word, code, kind}
 use Rattle.text.specs.Weights.{words_weight}
-use Rattle.text.specs.Tables.{Holds}
-use Rattle.text.specs.declared.table.Table.{Table}
-use Rattle.clauses.specs.declared.Fate.TheVariants.{Given, TooMany}
-use Rattle.clauses.specs.declared.Answer.{Answer}
+use Rattle.text.specs.Tables.{words_of}
 use Rattle.clauses.specs.Each.{Each, none, All}
 use Rattle.clauses.specs.Plans.{Plan, made, size, clauses_of, literals_of, head, words}
 use Rattle.clauses.specs.Laying.{plan, laid}
@@ -32,17 +29,18 @@ use Rattle.clauses.specs.Ranks.{cmp_parts, lead, spots, rank, relabelled}
 use Rattle.clauses.specs.Search.{Falls, at_place, Findable}
 use Rattle.clauses.specs.Sets.{Numbered, Spelled, entries, sets_of}
 use Rattle.clauses.specs.Steps.{total}
-use Rattle.clauses.specs.Stage.{Outcome, given, refused}
+use Rattle.std.specs.Prelude.{Ok}
+use Rattle.clauses.specs.declared.set.Set.{Set}
+use Rattle.clauses.specs.Stage.{Outcome}
 use Rattle.clauses.proofs.Tokens.{kinds_of}
-use Rattle.clauses.proofs.Related.{map_append, each_map, each_compare, each_length, each_set, each_total}
-use Rattle.clauses.proofs.Planned.{head_clauses, head_literals, below, words_split, plan_small, laid_plan}
+use Rattle.clauses.proofs.Related.{each_map, each_compare, each_length, each_set, each_total}
+use Rattle.clauses.proofs.Planned.{head_clauses, head_literals, words_split, plan_small, laid_plan}
 use Rattle.clauses.proofs.Ranked.{atoms, spots_each, place_agrees, parts_agree, ranked, numbers_agree}
 use Rattle.clauses.proofs.Searching.{sorted_falls}
 use Rattle.clauses.proofs.Placed.{plan_placed}
 use Rattle.clauses.proofs.Labelled.{label, words_label, plan_fits, made_numbered, plan_counts}
 
-module _ (T M : Bytes) (t : Table) (f : Formula) (len : length t.nodes ≡ 1024) (h : Holds T M t f) (r : ready f ≡ true) (q : Quant)
-    (used : ℕ) (used-is : used ≡ min t.used 1024) where
+module _ (T M : Bytes) (S : List ℕ) (f : Formula) (len : length S ≤ 1024) (h : tokens T M S ≡ code f) (r : ready f ≡ true) (q : Quant) where
   is_negated : negated f ≡ true
   unfolding ready
   is_negated = and_true_left (negated f) (no_block f) r
@@ -51,30 +49,14 @@ module _ (T M : Bytes) (t : Table) (f : Formula) (len : length t.nodes ≡ 1024)
   unfolding ready
   has_no_block = and_true_right (negated f) (no_block f) r
 
-  -- the words that are looked at are the formula's
-  all_used : used ≡ t.used
-  all_used = omega (arith, h.room)
+  from_start : tokens T M S ≡ code f ++ []
+  from_start = h ∙ sym (append-nil (code f))
 
-  words_are : tokens T M (take used t.nodes) ≡ code f
-  words_are = ap (λ (n : ℕ). tokens T M (take n t.nodes)) all_used ∙ h.words
-
-  kinds_are : map kind_of_word (take used t.nodes) ≡ map kind (code f ++ [])
-  kinds_are = kinds_of T M (take used t.nodes) ∙ ap (map kind) (words_are ∙ sym (append-nil (code f)))
-
-  weighs : used ≡ weight f
-  weighs =
-      sym (length-take-le used t.nodes (omega arith)) ∙ sym (length-map (take used t.nodes) (token T M)) ∙ ap length words_are ∙ words_weight f
+  kinds_are : map kind_of_word S ≡ map kind (code f ++ [])
+  kinds_are = kinds_of T M S ∙ ap (map kind) from_start
 
   small : weight f ≤ 1024
-  small = omega (arith, weighs)
-
-  abbrev behind_it : List Token
-  behind_it = tokens T M (drop used t.nodes)
-
-  from_start : tokens T M (drop 0 t.nodes) ≡ code f ++ behind_it
-  from_start =
-      ap (tokens T M) (sym (take-append-drop used t.nodes)) ∙ map_append (token T M) (take used t.nodes) (drop used t.nodes)
-      ∙ ap (λ (l : List Token). l ++ behind_it) words_are
+  small = omega (arith, sym (length-map S (token T M)) ∙ ap length h ∙ words_weight f)
 
   abbrev the_plan : Plan
   the_plan = plan q 0 f
@@ -82,40 +64,36 @@ module _ (T M : Bytes) (t : Table) (f : Formula) (len : length t.nodes ≡ 1024)
   plan_size : size the_plan < 2048
   plan_size = omega (arith, plan_small q 0 f, small)
 
-  module _ (O : List ℕ) (p : ℕ) (O-len : length O ≡ 1024) (laid_out : drop p O ≡ laid q 0 (map kind_of_word (take used t.nodes))) where
-    plan_at : drop p O ≡ words the_plan
+  module _ (W : List ℕ) (laid_out : W ≡ laid q 0 (map kind_of_word S)) where
+    plan_at : W ≡ words the_plan
     unfolding laid
     plan_at = laid_out ∙ ap (laid q 0) kinds_are ∙ laid_plan q 0 (weight f) f [] is_negated has_no_block (omega arith) small ∙ append-nil (words the_plan)
 
-    root_is : get_or O p 0 ≡ head the_plan
-    root_is =
-        let x : drop p O ≡ head the_plan ∷ below the_plan = plan_at ∙ words_split the_plan in
-        let y : get_or O p 0 ∷ drop (suc p) O ≡ head the_plan ∷ below the_plan = sym (drop-cons O p 0 (omega (arith, ap length x, length-drop p O))) ∙ x in
-        cc
+    root_is : get_or W 0 0 ≡ head the_plan
+    root_is = ap (λ (l : List ℕ). get_or l 0 0) (plan_at ∙ words_split the_plan)
 
-    module _ (root : ℕ) (root-read : root ≡ get_or O p 0) where
+    module _ (root : ℕ) (root-read : root ≡ get_or W 0 0) where
       clauses_counted : clauses_of root ≡ min (raw q f).clauses 2049
       clauses_counted = ap clauses_of (root-read ∙ root_is) ∙ head_clauses the_plan plan_size ∙ ap (λ c. min c.clauses 2049) (plan_counts q 0 f is_negated)
 
       literals_counted : literals_of root ≡ min (raw q f).literals 2049
       literals_counted = ap literals_of (root-read ∙ root_is) ∙ head_literals the_plan plan_size ∙ ap (λ c. min c.literals 2049) (plan_counts q 0 f is_negated)
 
-      pub over_clauses : {A L X : List ℕ} {a : Answer} → a.fate ≡ TooMany → 256 < clauses_of root → Outcome T M t.nodes q f A L X a
+      pub over_clauses : 256 < clauses_of root → too_many house (raw q f) ≡ true
       unfolding too_many
-      over_clauses e l =
-          refused e (or_left (ltb 256 (raw q f).clauses) (ltb 2048 (raw q f).literals) (lt-ltb 256 (raw q f).clauses (omega (arith, clauses_counted))))
+      over_clauses l =
+          (or_left (ltb 256 (raw q f).clauses) (ltb 2048 (raw q f).literals) (lt-ltb 256 (raw q f).clauses (omega (arith, clauses_counted))))
 
-      pub over_literals : {A L X : List ℕ} {a : Answer} → a.fate ≡ TooMany → 2048 < literals_of root → Outcome T M t.nodes q f A L X a
+      pub over_literals : 2048 < literals_of root → too_many house (raw q f) ≡ true
       unfolding too_many
-      over_literals e l =
-          refused e (or_right (ltb 256 (raw q f).clauses) (ltb 2048 (raw q f).literals) (lt-ltb 2048 (raw q f).literals (omega (arith, literals_counted))))
+      over_literals l =
+          (or_right (ltb 256 (raw q f).clauses) (ltb 2048 (raw q f).literals) (lt-ltb 2048 (raw q f).literals (omega (arith, literals_counted))))
 
       -- the atoms, and the plan with their ranks
-      module _ (few : clauses_of root ≤ 256) (short : literals_of root ≤ 2048) (A : List ℕ) (n : ℕ) (A_len : length A ≡ 1024) (n_fits : n ≤ used)
-          (collected : (m : List Atom) → Each (Spelled T M t.nodes) (spots 0 (map kind_of_word (take used t.nodes))) m
-          → take n A ≡ set_of (cmp_parts T M t.nodes) (spots 0 (map kind_of_word (take used t.nodes))))
-          (O' : List ℕ) (labelled : All (Findable T M t.nodes (take n A)) (drop p O)
-          → drop p O' ≡ map (relabelled (rank T M t.nodes (take n A))) (drop p O)) where
+      module _ (few : clauses_of root ≤ 256) (short : literals_of root ≤ 2048) (A : List ℕ) (n : ℕ) (n_fits : n ≤ length S)
+          (collected : (m : List Atom) → Each (Spelled T M S) (spots 0 (map kind_of_word S)) m
+          → take n A ≡ set_of (cmp_parts T M S) (spots 0 (map kind_of_word S)))
+          (W' : List ℕ) (labelled : All (Findable T M S (take n A)) W → W' ≡ map (relabelled (rank T M S (take n A))) W) where
         abbrev found : List Atom
         found = set_of cmp_atom (atoms f)
 
@@ -123,38 +101,38 @@ module _ (T M : Bytes) (t : Table) (f : Formula) (len : length t.nodes ≡ 1024)
         places = spots 0 (map kind (code f ++ []))
 
         abbrev ranks : ℕ → ℕ
-        ranks = rank T M t.nodes (take n A)
+        ranks = rank T M S (take n A)
 
-        parts_are : Each (Spelled T M t.nodes) places (atoms f)
+        parts_are : Each (Spelled T M S) places (atoms f)
         unfolding spots lead
         parts_are =
-            rw (append-nil (atoms f)) at (spots_each T M t.nodes 0 (weight f) f [] behind_it [] is_negated has_no_block (omega arith) small from_start refl none)
+            rw (append-nil (atoms f)) at (spots_each T M S 0 (weight f) f [] [] [] is_negated has_no_block (omega arith) small from_start refl none)
 
-        atoms_are : Each (Spelled T M t.nodes) (take n A) found
-        atoms_are = rw (collected (atoms f) (rw kinds_are parts_are), kinds_are) (each_set (parts_agree T M t.nodes) parts_are)
+        atoms_are : Each (Spelled T M S) (take n A) found
+        atoms_are = rw (collected (atoms f) (rw kinds_are parts_are), kinds_are) (each_set (parts_agree T M S) parts_are)
 
         number_of_atoms : length found ≤ 1024
-        number_of_atoms = omega (arith, each_length atoms_are, length-take-le n A (omega arith))
+        number_of_atoms = omega (arith, each_length atoms_are, length-take n A)
 
         numbered : Each (Each (Numbered found)) (made (label ranks the_plan)) (distribute q f)
         numbered =
-            made_numbered T M t.nodes ranks found (λ i a x e m. ranked T M t.nodes i a x atoms_are e m)
-            q 0 (weight f) f behind_it is_negated has_no_block (omega arith) small from_start (λ a m. set_of_has atom_orders a (atoms f) ∙ m)
+            made_numbered T M S ranks found (λ i a x e m. ranked T M S i a x atoms_are e m)
+            q 0 (weight f) f [] is_negated has_no_block (omega arith) small from_start (λ a m. set_of_has atom_orders a (atoms f) ∙ m)
 
         -- the atoms' table falls for the atom at each place
-        atoms_fall : (i : ℕ) (a : Atom) (x : List Token) → tokens T M (drop i t.nodes) ≡ code (atom_formula a) ++ x
-            → Falls (at_place T M t.nodes i) (take n A)
+        atoms_fall : (i : ℕ) (a : Atom) (x : List Token) → tokens T M (drop i S) ≡ code (atom_formula a) ++ x
+            → Falls (at_place T M S i) (take n A)
         atoms_fall i a x e =
-            sorted_falls atom_orders (at_place T M t.nodes i) a (λ w b s. place_agrees T M t.nodes i w a b x e s)
+            sorted_falls atom_orders (at_place T M S i) a (λ w b s. place_agrees T M S i w a b x e s)
             (set_of_sorted atom_orders (atoms f)) atoms_are
 
-        all_findable : All (Findable T M t.nodes (take n A)) (drop p O)
+        all_findable : All (Findable T M S (take n A)) W
         all_findable =
             rw plan_at
-            (plan_placed T M t.nodes (λ i. Falls (at_place T M t.nodes i) (take n A)) atoms_fall
-            q 0 (weight f) f behind_it is_negated (omega arith) small from_start)
+            (plan_placed T M S (λ i. Falls (at_place T M S i) (take n A)) atoms_fall
+            q 0 (weight f) f [] is_negated (omega arith) small from_start)
 
-        pub labelled_plan : drop p O' ≡ words (label ranks the_plan) ++ []
+        pub labelled_plan : W' ≡ words (label ranks the_plan) ++ []
         labelled_plan =
             labelled all_findable ∙ ap (map (relabelled ranks)) plan_at
             ∙ sym (words_label ranks the_plan (plan_fits q 0 f (omega (arith, small))) plan_size)
@@ -173,18 +151,20 @@ module _ (T M : Bytes) (t : Table) (f : Formula) (len : length t.nodes ≡ 1024)
             each_set (λ x y c d a b. each_compare agree a b)
             (each_map (set_of compare) (set_of cmp_literal) (λ x a s. each_set agree s) numbered)
 
-        pub set_given : {L X : List ℕ} {a : Answer} → a.fate ≡ Given → a.set.distinct ≡ n
-            → ((b : Plan) (rest : List ℕ) → drop p O' ≡ words b ++ rest → clauses_of root ≡ length (made b) → total (made b) ≤ 2048
-            → entries L X a.set.count ≡ sets_of (made b))
-            → Outcome T M t.nodes q f A L X a
+        pub set_given : (s : Set) → words_of s.atoms ≡ take n A
+            → ((b : Plan) (rest : List ℕ) → W' ≡ words b ++ rest → clauses_of root ≡ length (made b) → total (made b) ≤ 2048
+            → entries s ≡ sets_of (made b))
+            → Outcome T M S q f s (Ok tt)
         unfolding too_many
-        set_given e y gathered =
-            given e within (record {
-              atoms = found;
-              few = number_of_atoms;
-              spelled = rw y atoms_are;
-              listed = rw (gathered (label ranks the_plan) [] labelled_plan all_made all_fit) sorted_sets;
-            })
+        set_given s y gathered = (
+          within,
+          record {
+            atoms = found;
+            few = number_of_atoms;
+            spelled = rw y atoms_are;
+            listed = rw (gathered (label ranks the_plan) [] labelled_plan all_made all_fit) sorted_sets;
+          },
+        )
           where
             within : (ltb 256 (raw q f).clauses || ltb 2048 (raw q f).literals) ≡ false
             within = rw (le-ltb 256 (raw q f).clauses (omega (arith, clauses_counted)), le-ltb 2048 (raw q f).literals (omega (arith, literals_counted)))

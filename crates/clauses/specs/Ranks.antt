@@ -37,12 +37,6 @@ cmp_tokens (s ∷ x) (t ∷ y) zero v = v
 cmp_tokens (s ∷ x) (t ∷ y) (suc d) v =
     then (cmp_token s t) (cmp_tokens x y (due d (behind s) (behind t)) (then (compare (behind s) (behind t)) v))
 
--- the code's answers: 0 before, 1 the same, 2 after
-abbrev pub ordering_of : ℕ → Ordering
-ordering_of zero = Ordering.lt
-ordering_of (suc zero) = Ordering.eq
-ordering_of (suc (suc n)) = Ordering.gt
-
 -- the atoms at two places of a table
 abbrev pub cmp_places : Bytes → Bytes → List ℕ → ℕ → ℕ → Ordering
 cmp_places T M S i j = cmp_tokens (tokens T M (drop i S)) (tokens T M (drop j S)) 1 Ordering.eq

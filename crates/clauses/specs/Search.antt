@@ -1,5 +1,5 @@
 -- Search in a sorted list. What is sought is known by how it compares with the elements: c w is the answer for the element w.
-use Rattle.std.specs.Prelude.{◌≡◌, ◌⊎◌, Bool, true, false, List, length, get_or}
+use Rattle.std.specs.Prelude.{◌≡◌, ◌⊎◌, List, length, get_or, Result, MatchResult}
 use Prim.Native.Nat.{ℕ, ◌%◌, ◌≤◌, ◌<◌, Ordering}
 use Rattle.definitions.specs.Bytes.{Bytes}
 use Rattle.clauses.specs.Plans.{form_of, number_of}
@@ -10,13 +10,20 @@ use Rattle.clauses.specs.Ranks.{cmp_places, start_of}
 pub record Falls (c : ℕ → Ordering) (l : List ℕ) : Type 0 where
   pub either : (i j : ℕ) → i < j → j < length l → (c (get_or l i 0) ≡ Ordering.gt) ⊎ (c (get_or l j 0) ≡ Ordering.lt)
 
--- Where a search ends, at i: the sought one comes after all that stand before i. If it is found it stands at i, and else it comes before
--- all that stand from i on.
-pub record Finds (c : ℕ → Ordering) (l : List ℕ) (i : ℕ) (found : Bool) : Type 0 where
-  pub inside : found ≡ true → i < length l
-  pub same : found ≡ true → c (get_or l i 0) ≡ Ordering.eq
+-- The sought one stands at i, and comes after all that stand before.
+pub record Found (c : ℕ → Ordering) (l : List ℕ) (i : ℕ) : Type 0 where
+  pub inside : i < length l
+  pub same : c (get_or l i 0) ≡ Ordering.eq
   pub after : (k : ℕ) → k < i → c (get_or l k 0) ≡ Ordering.gt
-  pub before : found ≡ false → (k : ℕ) → i ≤ k → k < length l → c (get_or l k 0) ≡ Ordering.lt
+
+-- It stands nowhere: it comes after all that stand before i, and before all that stand from i on.
+pub record Missing (c : ℕ → Ordering) (l : List ℕ) (i : ℕ) : Type 0 where
+  pub after : (k : ℕ) → k < i → c (get_or l k 0) ≡ Ordering.gt
+  pub before : (k : ℕ) → i ≤ k → k < length l → c (get_or l k 0) ≡ Ordering.lt
+
+-- What a search answers: where the sought one stands, or is to be put.
+abbrev pub Finds : (ℕ → Ordering) → List ℕ → Result ℕ ℕ → Type 0
+Finds c l r = MatchResult r (Found c l) (Missing c l)
 
 -- how the atom at a place of a table compares with that of a part
 abbrev pub at_place : Bytes → Bytes → List ℕ → ℕ → ℕ → Ordering

@@ -8,119 +8,51 @@ mod plan;
 pub mod set;
 mod sets;
 
-ghost use Rattle.std.specs.Prelude.{◌≡◌, true, ◌≤◌, min, length};
-ghost use Rattle.definitions.specs.Syntax.{Formula};
+ghost use Rattle.std.specs.Prelude.{◌≡◌, true, ◌≤◌, length};
 ghost use Rattle.definitions.specs.Limits.{house};
+ghost use Rattle.definitions.specs.Syntax.{Formula};
 ghost use Rattle.definitions.specs.Laws.Shapes.{ready};
-ghost use Rattle.text.specs.Tables.{as_table, Holds};
+ghost use Rattle.text.specs.Words.{tokens, code};
 ghost use Rattle.clauses.specs.Laying.{marked};
-ghost use Rattle.clauses.specs.declared.Fate.TheVariants.{TooMany};
-ghost use Rattle.clauses.specs.Stage.{Whole, Tested, Fits, Outcome};
+ghost use Rattle.clauses.specs.Stage.{Fits, Outcome};
 
+use atoms::Matrix;
 use set::Set;
+use text::names::Spellings;
 use text::table::Table;
 
-// Whether there is a set, or the raw clauses or their literals are too many (refusal 8).
-#[derive(Drop)]
-pub enum Fate {
-    Given,
-    TooMany,
-}
+// The raw clauses or their literals are more than a set has room for.
+#[derive(Clone, Copy)]
+pub struct TooMany;
 
-#[derive(Drop)]
-pub struct Answer {
-    pub set: Set,
-    pub fate: Fate,
-}
-
-// How many words of a table are looked at, whatever it says.
-fn within(used: usize) -> usize
-    ensures { (result ≡ min used house.weight) × (result ≤ house.weight) }
-{
-    if used > Table::WEIGHT {
-        return Table::WEIGHT;
-    }
-    used
-}
-
-// Whether the lent arrays are as long as their types say.
-fn are_whole(
-    nodes: &[u64; Table::WEIGHT],
-    atoms: &[u64; Table::WEIGHT],
-    literals: &[u64; Set::LITERALS],
-    index: &[u64; Set::CLAUSES],
-) -> bool
-    ensures { Tested nodes.now atoms.now literals.now index.now result }
-{
-    if !Table::is_whole(nodes) {
-        return false;
-    }
-    if !Table::is_whole(atoms) {
-        return false;
-    }
-    let store: &[u64] = literals;
-    if store.len() != Set::LITERALS {
-        return false;
-    }
-    let words: &[u64] = index;
-    words.len() == Set::CLAUSES
-}
-
-// No set.
-fn none() -> Answer
-    ensures { result ≡ record { set = record { distinct = 0; count = 0 }; fate = TooMany } }
-{
-    Answer {
-        set: Set {
-            distinct: 0,
-            count: 0,
-        },
-        fate: Fate::TooMany,
-    }
-}
-
-// The clause set of the matrix in the first `used` nodes, conjunctive or disjunctive, in the three arrays. Conjunctive, P(x) ⇔ Q(y) in negation
-// form gives {P(x), ¬Q(y)} and {Q(y), ¬P(x)}. Where the raw counts pass a limit the answer is TooMany, and the arrays mean nothing.
+// The clause set of the matrix in some words, conjunctive or disjunctive. Conjunctive, P(x) ⇔ Q(y) in negation form gives {P(x), ¬Q(y)} and
+// {Q(y), ¬P(x)}. Where the raw clauses or their literals are too many (refusal 8) the set has no clause and no atom. Of more words than a table
+// has the first are looked at.
 pub fn clauses<'a>(
     conjunctive: bool,
-    nodes: &[u64; Table::WEIGHT],
-    used: usize,
-    text: &'a [u8],
-    made: &'a [u8],
-    atoms: &mut [u64; Table::WEIGHT],
-    literals: &mut [u64; Set::LITERALS],
-    index: &mut [u64; Set::CLAUSES],
-) -> Answer
-    ensures fits { Fits result.set }
-    ensures stage { Whole nodes.now atoms.old literals.old index.old
-        → (f : Formula) → Holds text.now made.now (as_table nodes.now used) f → ready f ≡ true
-        → Outcome text.now made.now nodes.now (marked conjunctive) f atoms.new literals.new index.new result }
-    ensures sizes { (length atoms.new ≡ length atoms.old) × (length literals.new ≡ length literals.old)
-        × (length index.new ≡ length index.old) }
+    words: &[u64],
+    spellings: Spellings<'a>,
+    set: &mut Set,
+) -> Result<(), TooMany>
+    ensures fits { Fits set.new }
+    ensures sizes { (length set.new.atoms.nodes ≡ length set.old.atoms.nodes) × (length set.new.literals ≡ length set.old.literals)
+        × (length set.new.index ≡ length set.old.index) }
+    ensures stage { (f : Formula) → length words.now ≤ house.weight → tokens spellings.entry.text.now spellings.entry.made.now words.now ≡ code f
+        → ready f ≡ true → Outcome spellings.entry.text.now spellings.entry.made.now words.now (marked conjunctive) f set.new result }
 {
-    if !are_whole(nodes, atoms, literals, index) {
-        return none();
-    }
-    let end = within(used);
+    set.count = 0;
+    set.atoms.used = 0;
+    let words = &words[..words.len().min(Table::WEIGHT)];
     let mut plan = [0u64; Table::WEIGHT];
-    let p = plan::lay_out(nodes, end, conjunctive, &mut plan);
-    let root = plan::entry(&plan, p);
+    let p = plan::lay_out(words, conjunctive, &mut plan);
+    let root = plan::first(&plan[p..]);
     let many = plan::clauses(root) as usize;
-    if many > Set::CLAUSES {
-        return none();
+    if many > Set::CLAUSES || plan::literals(root) as usize > Set::LITERALS {
+        return Err(TooMany);
     }
-    if plan::literals(root) as usize > Set::LITERALS {
-        return none();
-    }
-    let distinct = atoms::collect(text, made, nodes, end, atoms);
-    plan::label(text, made, nodes, atoms, distinct, &mut plan, p);
-    let mut clause = [0u64; Table::WEIGHT];
-    let grown = sets::gather(&plan, p, many, &mut clause, literals, index);
-    Answer {
-        set: Set {
-            distinct: distinct,
-            count: grown.count,
-        },
-        fate: Fate::Given,
-    }
+    let matrix = Matrix { words, spellings };
+    matrix.collect(&mut set.atoms);
+    plan::label(matrix, set.atoms.words(), &mut plan[p..]);
+    sets::gather(&plan[p..], many, set);
+    Ok(())
 }

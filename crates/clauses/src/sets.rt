@@ -1,16 +1,17 @@
 // Sorted tables without repeats, filled by insertion: the literals of a clause, and the clauses.
-ghost use Prim.Native.Nat.{ℕ, ◌+◌, ◌*◌, ◌/◌, ◌%◌, ◌-◌, min, ◌<◌, ◌≤◌, compare};
+ghost use Prim.Native.Nat.{ℕ, ◌+◌, ◌*◌, ◌/◌, ◌%◌, ◌-◌, ◌<◌, ◌≤◌, compare};
 ghost use Rattle.std.specs.Prelude.{◌≡◌, List, [], ◌∷◌, ◌++◌, length, take, drop, get_or};
 ghost use Rattle.definitions.specs.Limits.{house};
-ghost use Rattle.definitions.specs.Order.{insert, set_of};
+ghost use Rattle.definitions.specs.Order.{insert};
 ghost use Rattle.clauses.specs.Plans.{Plan, made as made_of, words};
-ghost use Rattle.clauses.specs.Ranks.{ordering_of, part, part_word};
-ghost use Rattle.clauses.specs.Search.{Falls, Finds};
+ghost use Rattle.clauses.specs.Ranks.{part as part_of};
+ghost use Rattle.clauses.specs.Search.{Falls};
 ghost use Rattle.clauses.specs.Sets.{entries, cmp_numbers, sets_of};
-ghost use Rattle.clauses.specs.Steps.{total, Within, Room, Grows};
+ghost use Rattle.clauses.specs.Steps.{total, Within, Grows};
 
 use crate::plan;
-use crate::set::Set;
+use crate::set::{Set, part};
+use std::cmp::Ordering;
 use text::table::Table;
 
 // Puts a number at the place i of the first n, and moves those from there on up by one.
@@ -18,215 +19,112 @@ pub fn shift(out: &mut [u64], i: usize, n: usize, x: u64)
     requires { (i ≤ n) × (n < length out.old) }
     ensures { (length out.new ≡ length out.old) × (take (n + 1) out.new ≡ take i out.old ++ (x ∷ drop i (take n out.old))) }
 {
-    let mut carry = x;
-    let mut j = i;
-    while j < n {
-        let y = out[j];
-        out[j] = carry;
-        carry = y;
-        j += 1;
-    }
-    out[n] = carry;
+    out.copy_within(i..n, i + 1);
+    out[i] = x;
 }
 
-// A place in a sorted table, and whether what is sought stands there already.
+// A sorted clause: the first `used` are the numbers of its literals.
 #[derive(Drop)]
-pub struct Place {
-    pub at: usize,
-    pub found: bool,
-}
-
-// Where a number stands among the first n of a sorted table, or is to be put. Each look leaves out the half that cannot have it.
-fn find(numbers: &[u64; Table::WEIGHT], n: usize, x: u64) -> Place
-    requires { (length numbers.now ≡ house.weight) × (n ≤ house.weight) }
-    ensures safe { result.at ≤ n }
-    ensures does { Falls (compare x) (take n numbers.now)
-        → Finds (compare x) (take n numbers.now) result.at result.found }
-{
-    let mut low: usize = 0;
-    let mut high = n;
-    while low < high {
-        let mid = (low + high) / 2;
-        let y = numbers[mid];
-        if x == y {
-            return Place {
-                at: mid,
-                found: true,
-            };
-        }
-        if x < y {
-            high = mid;
-        } else {
-            low = mid + 1;
-        }
-    }
-    Place {
-        at: low,
-        found: false,
-    }
-}
-
-// Puts a literal into the sorted clause of the first n; gives the new number of them. A full table is left as it is.
-pub fn add_literal(x: u64, clause: &mut [u64; Table::WEIGHT], n: usize) -> usize
-    requires { (length clause.old ≡ house.weight) × (n ≤ house.weight) }
-    ensures safe { (length clause.new ≡ house.weight) × (result ≤ house.weight) }
-    ensures does { n < house.weight → Falls (compare x) (take n clause.old)
-        → take result clause.new ≡ insert compare x (take n clause.old) }
-{
-    if n >= Table::WEIGHT {
-        return n;
-    }
-    let place = find(clause, n, x);
-    if place.found {
-        return n;
-    }
-    shift(clause, place.at, n, x);
-    n + 1
-}
-
-// The length of the part of the store that a word names: start + 4096 * length.
-fn size(word: u64) -> usize
-    ensures { result ≡ min (word / 4096) (2048 - word % 4096) }
-{
-    let start = (word % 4096) as usize;
-    let length = (word / 4096) as usize;
-    if start >= Set::LITERALS {
-        return 0;
-    }
-    if length > Set::LITERALS - start {
-        return Set::LITERALS - start;
-    }
-    length
-}
-
-// The order of two clauses, as the parts that two words name: 0 before, 1 the same, 2 after.
-fn order(store: &[u64; Set::LITERALS], a: u64, b: u64) -> u8
-    requires { length store.now ≡ house.literals }
-    ensures { ordering_of result ≡ cmp_numbers (part store.now a) (part store.now b) }
-{
-    let long = size(a);
-    let other = size(b);
-    let left = (a % 4096) as usize;
-    let right = (b % 4096) as usize;
-    let mut i: usize = 0;
-    while i < long {
-        if i >= other {
-            return 2;
-        }
-        let p = left + i;
-        let q = right + i;
-        let x = store[p];
-        let y = store[q];
-        if x < y {
-            return 0;
-        }
-        if y < x {
-            return 2;
-        }
-        i += 1;
-    }
-    if i < other {
-        return 0;
-    }
-    1
-}
-
-// Puts the clause of a word into the sorted table of the first n; gives the new number of them.
-fn add_clause(
-    store: &[u64; Set::LITERALS],
-    word: u64,
-    index: &mut [u64; Set::CLAUSES],
-    n: usize,
-) -> usize
-    requires { (length store.now ≡ house.literals) × (length index.old ≡ house.clauses) × (n < house.clauses) }
-    ensures safe { (length index.new ≡ house.clauses) × (result ≤ n + 1) }
-    ensures within { (used : ℕ) → Within used (take n index.old) → word % 4096 + word / 4096 ≤ used → Within used (take result index.new) }
-    ensures does { entries store.now index.new result ≡ insert cmp_numbers (part store.now word) (entries store.now index.old n) }
-{
-    let mut i: usize = 0;
-    while i < n {
-        let y = index[i];
-        let o = order(store, word, y);
-        if o == 1 {
-            return n;
-        }
-        if o < 1 {
-            shift(index, i, n, word);
-            return n + 1;
-        }
-        i += 1;
-    }
-    shift(index, i, n, word);
-    n + 1
-}
-
-// Copies the first n numbers of a clause behind the first `used` of the store.
-fn copy(from: &[u64; Table::WEIGHT], n: usize, store: &mut [u64; Set::LITERALS], used: usize)
-    requires { (length from.now ≡ house.weight) × (length store.old ≡ house.literals) × (n ≤ house.weight) × (used + n ≤ house.literals) }
-    ensures { (length store.new ≡ house.literals) × (take (used + n) store.new ≡ take used store.old ++ take n from.now) }
-{
-    let mut i: usize = 0;
-    while i < n {
-        let at = used + i;
-        store[at] = from[i];
-        i += 1;
-    }
-}
-
-// How many clauses the table has, and how many numbers the store.
-#[derive(Drop)]
-pub struct Grown {
-    pub count: usize,
+pub struct Clause {
+    pub numbers: [u64; Table::WEIGHT],
     pub used: usize,
+    ghost fits: { used ≤ house.weight },
+    ghost whole: { length numbers ≡ house.weight },
 }
 
-// Puts the raw clause k of a plan into the table.
-fn grow(
-    plan: &[u64; Table::WEIGHT],
-    p: usize,
-    k: usize,
-    clause: &mut [u64; Table::WEIGHT],
-    store: &mut [u64; Set::LITERALS],
-    index: &mut [u64; Set::CLAUSES],
-    had: Grown,
-) -> Grown
-    requires { (length plan.now ≡ house.weight) × Room clause.old store.old index.old × (had.count < house.clauses) × (had.used ≤ house.literals) }
-    ensures safe { Room clause.new store.new index.new × (result.count ≤ had.count + 1) × (result.used ≤ house.literals) }
-    ensures does { (a : Plan) (rest : List ℕ) → drop p plan.now ≡ words a ++ rest → k < length (made_of a) → k < 2049
-        → Grows store.old index.old had store.new index.new result (get_or (made_of a) k []) }
-{
-    let size = plan::walk(plan, p, k, clause, 0);
-    if size > Set::LITERALS - had.used {
-        return had;
+impl Clause {
+    // The clause of no literal.
+    pub fn empty() -> Clause
+        ensures { result.used ≡ 0 }
+    {
+        Clause {
+            numbers: [0u64; Table::WEIGHT],
+            used: 0,
+        }
     }
-    let used = had.used;
-    copy(clause, size, store, used);
-    let count = add_clause(store, used as u64 + 4096 * size as u64, index, had.count);
-    Grown {
-        count: count,
-        used: used + size,
+
+    // The numbers of its literals.
+    fn literals(&self) -> &[u64]
+        ensures { (result.now ≡ take self.now.used self.now.numbers) × (length result.now ≡ self.now.used) }
+    {
+        let numbers = &self.numbers[..];
+        &numbers[..self.used]
+    }
+
+    // Puts a literal in its place. A full clause is left as it is.
+    pub fn add(&mut self, x: u64)
+        ensures { self.old.used < house.weight → Falls (compare x) (take self.old.used self.old.numbers)
+            → take self.new.used self.new.numbers ≡ insert compare x (take self.old.used self.old.numbers) }
+    {
+        let used = self.used;
+        if used >= Table::WEIGHT {
+            return;
+        }
+        if let Err(at) = self.literals().binary_search(&x) {
+            shift(&mut self.numbers, at, used, x);
+            self.used = used + 1;
+        }
     }
 }
 
-// Puts all n raw clauses of a plan into the table, the last first.
-pub fn gather(
-    plan: &[u64; Table::WEIGHT],
-    p: usize,
-    n: usize,
-    clause: &mut [u64; Table::WEIGHT],
-    store: &mut [u64; Set::LITERALS],
-    index: &mut [u64; Set::CLAUSES],
-) -> Grown
-    requires { (length plan.now ≡ house.weight) × Room clause.old store.old index.old × (n ≤ house.clauses) }
-    ensures safe { Room clause.new store.new index.new × (result.count ≤ n) }
-    ensures does { (a : Plan) (rest : List ℕ) → drop p plan.now ≡ words a ++ rest → n ≡ length (made_of a) → total (made_of a) ≤ house.literals
-        → entries store.new index.new result.count ≡ sets_of (made_of a) }
+// Puts the clause of a word into the sorted clauses of a set. From the front, and not by halves: so the clause holds of clauses in any order.
+fn add_clause(set: &mut Set, word: u64)
+    requires { set.old.count < house.clauses }
+    ensures safe { (set.new.count ≤ set.old.count + 1) × (set.new.atoms ≡ set.old.atoms) × (set.new.literals ≡ set.old.literals) }
+    ensures sizes { length set.new.index ≡ length set.old.index }
+    ensures within { (used : ℕ) → Within used (take set.old.count set.old.index) → word % 4096 + word / 4096 ≤ used
+        → Within used (take set.new.count set.new.index) }
+    ensures does { entries set.new ≡ insert cmp_numbers (part_of set.old.literals word) (entries set.old) }
 {
-    let mut g = Grown { count: 0, used: 0 };
-    let mut k = n;
-    while k > 0 {
-        k -= 1;
-        g = grow(plan, p, k, clause, store, index, g);
+    let n = set.count;
+    let clause = part(&set.literals, word);
+    for i in 0..n {
+        match clause.cmp(part(&set.literals, set.index[i])) {
+            Ordering::Less => {
+                shift(&mut set.index, i, n, word);
+                set.count = n + 1;
+                return;
+            }
+            Ordering::Equal => return,
+            Ordering::Greater => {}
+        }
     }
-    g
+    shift(&mut set.index, n, n, word);
+    set.count = n + 1;
+}
+
+// Puts the raw clause k of a plan into a set, whose literals are the first `used`; gives how many they are then.
+fn grow(plan: &[u64], k: usize, clause: &mut Clause, set: &mut Set, used: usize) -> usize
+    requires { (length plan.now ≤ house.weight) × (set.old.count < house.clauses) × (used ≤ house.literals) }
+    ensures safe { (set.new.count ≤ set.old.count + 1) × (result ≤ house.literals) × (set.new.atoms ≡ set.old.atoms) }
+    ensures sizes { (length set.new.literals ≡ length set.old.literals) × (length set.new.index ≡ length set.old.index) }
+    ensures does { (a : Plan) (rest : List ℕ) → plan.now ≡ words a ++ rest → k < length (made_of a) → k < 2049
+        → Grows set.old used set.new result (get_or (made_of a) k []) }
+{
+    clause.used = 0;
+    plan::walk(plan, k, clause);
+    let size = clause.used;
+    if size > Set::LITERALS - used {
+        return used;
+    }
+    let end = used + size;
+    set.literals[used..end].copy_from_slice(clause.literals());
+    add_clause(set, used as u64 + 4096 * size as u64);
+    end
+}
+
+// Gives a set all n raw clauses of a plan, in place of those that it had, the last first.
+pub fn gather(plan: &[u64], n: usize, set: &mut Set)
+    requires { (length plan.now ≤ house.weight) × (n ≤ house.clauses) }
+    ensures safe { (set.new.count ≤ n) × (set.new.atoms ≡ set.old.atoms) }
+    ensures sizes { (length set.new.literals ≡ length set.old.literals) × (length set.new.index ≡ length set.old.index) }
+    ensures does { (a : Plan) (rest : List ℕ) → plan.now ≡ words a ++ rest → n ≡ length (made_of a) → total (made_of a) ≤ house.literals
+        → entries set.new ≡ sets_of (made_of a) }
+{
+    let mut clause = Clause::empty();
+    let mut used = 0;
+    set.count = 0;
+    for k in (0..n).rev() {
+        used = grow(plan, k, &mut clause, set, used);
+    }
 }

@@ -1,5 +1,6 @@
 -- The shape of a rule, as refusal 4 has it, and the matrix of one.
 use mathlib.Core.Path.{◌≡◌, sym, ap, ◌∙◌}
+use mathlib.Core.Logic.{◌⊎◌, inl, inr}
 use mathlib.Core.Bool.{Bool, true, false, not}
 use mathlib.Core.List.{List}
 use Prim.Native.Nat.{ℕ}
@@ -8,7 +9,7 @@ use Rattle.definitions.specs.Syntax.{Formula}
 use Rattle.definitions.specs.Limits.{house}
 use Rattle.definitions.specs.Prenex.{formula, no_block, all_only, parted, is_prenex_form, is_skolem}
 use Rattle.definitions.specs.Skolem.{skolem_formula, hash_free}
-use Rattle.definitions.specs.Convert.{Result, refused, stage, as_clauses, through_prenex, through_skolem, snf, snf_of_prenex, pnf_to_snf, convert_tree}
+use Rattle.definitions.specs.Convert.{Result as Outcome, refused, stage, as_clauses, through_prenex, through_skolem, snf, snf_of_prenex, pnf_to_snf, convert_tree}
 use Rattle.definitions.proofs.Laws.Bools.{and_true_left}
 use Rattle.definitions.specs.Laws.Within.{Within}
 use Rattle.definitions.specs.Laws.Kept.{each}
@@ -19,19 +20,15 @@ use Rattle.definitions.proofs.Laws.Shapes.{close_parted}
 use Rattle.clauses.specs.Laying.{marked}
 use Rattle.skolem.specs.declared.shape.Shape.{Shape}
 use Rattle.skolem.specs.declared.shape.Shape.TheVariants as shapes
-use Rattle.skolem.specs.declared.shape.Halves.{Halves}
-use Rattle.skolem.specs.Shape.{Shaped, Parted, skolem_shape, prenex_shape}
-use Rattle.text.specs.Tables.{as_table, Holds}
-use Rattle.text.specs.Prefixes.{Apart}
+use Rattle.skolem.specs.Shape.{Shaped, Splits, skolem_shape, prenex_shape}
+use Rattle.skolem.specs.Parts.{Parts, of_split}
 use Rattle.convert.specs.declared.stages.Last.TheVariants.{Form}
 use Rattle.convert.specs.Stages.{Rule, Tame, Narrow, ending, of_skolem_stage}
 use Rattle.convert.proofs.Tame.{tame_from, matrix_each}
 
-pub not_skolem : (conjunctive : Bool) (f : Formula) {r : Shape} → Shaped f r → r ≡ shapes.Other → of_skolem_stage conjunctive f ≡ refused 4 0
-not_skolem b f s e = rw (s.skolem ∙ ap skolem_shape e)
-
-pub not_skolem_either : (conjunctive : Bool) (f : Formula) {r : Shape} → Shaped f r → r ≡ shapes.Prenex → of_skolem_stage conjunctive f ≡ refused 4 0
-not_skolem_either b f s e = rw (s.skolem ∙ ap skolem_shape e)
+pub not_skolem : (conjunctive : Bool) (f : Formula) {r : Shape} → Shaped f r → (r ≡ shapes.Other) ⊎ (r ≡ shapes.Prenex) → of_skolem_stage conjunctive f ≡ refused 4 0
+not_skolem b f s (inl e) = rw (s.skolem ∙ ap skolem_shape e)
+not_skolem b f s (inr e) = rw (s.skolem ∙ ap skolem_shape e)
 
 pub its_matrix : (conjunctive : Bool) (f : Formula) {r : Shape} → Shaped f r → r ≡ shapes.Skolem
     → (of_skolem_stage conjunctive f ≡ as_clauses house (marked conjunctive) (parted f).matrix) × (no_block (parted f).matrix ≡ true)
@@ -60,25 +57,18 @@ unfolding convert_tree
 clean_prenex f s e d g h = rw (s.prenex ∙ sym e ∙ d, sym g ∙ h)
 
 -- refusal 5 before stages 1 to 3
-pub hashed_rule : (f : Formula) (r : Result) {c : Bool} → c ≡ not (hash_free f) → c ≡ true → through_skolem house f r ≡ refused 5 0
+pub hashed_rule : (f : Formula) (r : Outcome) {c : Bool} → c ≡ not (hash_free f) → c ≡ true → through_skolem house f r ≡ refused 5 0
 hashed_rule f r g h = rw (sym g ∙ h)
 
-pub clean_rule : (f : Formula) (r : Result) {c : Bool} → c ≡ not (hash_free f) → c ≡ false
+pub clean_rule : (f : Formula) (r : Outcome) {c : Bool} → c ≡ not (hash_free f) → c ≡ false
     → through_skolem house f r ≡ through_prenex house f (stage house 3 (skolem_formula (snf f)) r)
 clean_rule f r g h = rw (sym g ∙ h)
 
--- the two halves of a rule in prenex form
-pub halves_apart : (T M : Bytes) (f : Formula) {S X : List ℕ} {n : ℕ} {h : Halves} {r : Shape} {b : Bool} → Rule T (as_table S n) f
-    → ((T M : Bytes) (f : Formula) → Holds T M (as_table S n) f → Parted T M S X f h)
-    → Shaped f r → b ≡ prenex_shape r → b ≡ true → Apart T M 0 (as_table S h.prefix) (as_table X h.matrix) (parted f)
+-- blocks and matrix of a rule in prenex form
+pub its_parts : {T M : Bytes} (f : Formula) {W P X : List ℕ} {r : Shape} {b : Bool} → Rule T W f → Splits W P X → Shaped f r → b ≡ prenex_shape r → b ≡ true
+    → Parts T M 0 P X (parted f)
 unfolding is_prenex_form
-halves_apart T M f u p s e d = record {
-  prefix_room = (p T M f (u.holds M)).prefix_room;
-  matrix_room = (p T M f (u.holds M)).body.room;
-  blocks = λ N z. (p T N f (u.holds N)).blocks;
-  body = λ N z. (p T N f (u.holds N)).body.words;
-  flat = s.prenex ∙ sym e ∙ d;
-}
+its_parts f u p s e d = of_split f p u.room (λ N z. u.words N) (s.prenex ∙ sym e ∙ d)
 
 pub rule_tame : (f : Formula) → Within house f → Tame (formula (parted f))
 rule_tame f w =

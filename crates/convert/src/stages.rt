@@ -1,405 +1,284 @@
-// The stages that the conversions pass, of a rule that was read. Each function refuses, or hands its tables to the next.
-ghost use Rattle.std.specs.Prelude.{◌≡◌, true, ◌++◌, ℕ, ◌*◌, ◌≤◌, length, take};
+// The stages that the conversions pass, of a rule that was read. Each function refuses, or hands its tables to the next. Where a stage writes
+// made names they and the rule text are lent apart, and not as `Spellings`.
+ghost use Rattle.std.specs.Prelude.{◌≡◌, true, ◌*◌, ◌≤◌, length};
 ghost use Rattle.definitions.specs.Bytes.{Bytes};
 ghost use Rattle.definitions.specs.Syntax.{Formula, weight};
 ghost use Rattle.definitions.specs.RuleText.{written};
 ghost use Rattle.definitions.specs.Limits.{house, published};
-ghost use Rattle.definitions.specs.Prenex.{Prenex, formula, pnf, no_block};
+ghost use Rattle.definitions.specs.Prenex.{Prenex, formula, no_block};
 ghost use Rattle.definitions.specs.Skolem.{Skolemised, skolemise as skolem_form, skolem_formula, zero_counts};
 ghost use Rattle.definitions.specs.Clauses.{raw, clauses as clause_set, listing};
 ghost use Rattle.definitions.specs.Convert.{refused_if, given, too_many, stage, as_clauses, through_skolem, snf, to_simplified, to_nnf, to_pnf, pnf_to_snf};
 ghost use Rattle.definitions.specs.Laws.Shapes.{ready};
-ghost use Rattle.text.specs.Words.{tokens};
-ghost use Rattle.text.specs.Tables.{as_table, Holds};
-ghost use Rattle.text.specs.Prefixes.{prefix_code, Apart};
+ghost use Rattle.text.specs.Words.{tokens, code};
+ghost use Rattle.text.specs.Tables.{words_of};
+ghost use Rattle.text.specs.Prefixes.{prefix_code};
 ghost use Rattle.clauses.specs.Laying.{marked};
 ghost use Rattle.skolem.specs.Shape.{prenex_shape};
+ghost use Rattle.skolem.specs.Parts.{Parts};
 ghost use Rattle.convert.specs.Answers.{named, Answered, Shows, ShowsTree};
 ghost use Rattle.convert.specs.Stages.{Rule, Prenexes, Tame, Narrow, Joined, ending, of_skolem_stage};
 
-use crate::{Answer, Conversion};
+use crate::{Conversion, Refusal};
 use clauses::set::Set;
+use listing::source::Source;
 use listing::write_listing;
-use negation::{Stage, negation_form};
+use negation::negation_form;
 use prenex::Prenexed;
 use skolem::counters::Counters;
 use skolem::shape::{Shape, has_hash, shape_of, split};
 use skolem::skolemise;
+use text::names::Spellings;
 use text::table::Table;
-use writer::{Written, write};
+use writer::write;
 
-// What follows stage 3: the Skolem form's text, or one of its two clause sets.
-#[derive(Drop)]
+// What follows stage 3: the Skolem form's text, or one of its two clause sets. A value and not a closure: the functions that hand it on
+// would each have to say what the closure promises.
+#[derive(Clone, Copy)]
 pub(crate) enum Last {
     Form,
     Conjunctive,
     Disjunctive,
 }
 
-// Writes the formula of the first `used` nodes to the front of out, if there is room for it.
-fn show<'a>(
-    nodes: &[u64; Table::WEIGHT],
-    used: usize,
-    text: &'a [u8],
-    made: &'a [u8],
-    out: &mut [u8],
-) -> Answer
-    ensures { (f : Formula) → Holds text.now made.now (as_table nodes.now used) f → Shows (written f) out.old result out.new }
+// Writes the formula of some words to the front of out, if there is room for it.
+fn show(words: &[u64], spellings: Spellings, out: &mut [u8]) -> Result<usize, Refusal>
+    ensures { (f : Formula) → tokens spellings.entry.text.now spellings.entry.made.now words.now ≡ code f → Shows (written f) out.old result out.new }
 {
-    match write(nodes, used, text, made, out) {
-        Written::Length(n) => Answer::Length(n),
-        Written::NoRoom => Answer::Room,
-    }
+    write(words, spellings, out).ok_or(Refusal::Room)
 }
 
-// Puts the first `size` words of a matrix behind the first `bound` of a prefix; gives how many they are together. What has no room there is
-// left out.
-fn join(
-    prefix: &mut [u64; Table::WEIGHT],
-    bound: usize,
-    matrix: &[u64; Table::WEIGHT],
-    size: usize,
-) -> usize
-    requires { (length prefix.old ≡ house.weight) × (length matrix.now ≡ house.weight) }
-    ensures { Joined prefix.old bound matrix.now size prefix.new result }
+// Puts the words of a matrix behind those of its blocks. What has no room there is left out.
+fn join(blocks: &mut Table, matrix: &[u64])
+    ensures { Joined blocks.old matrix.now blocks.new }
 {
-    let mut at = bound;
-    let mut i = 0;
-    while i < size {
-        if at >= Table::WEIGHT {
-            return at;
-        }
-        if i >= Table::WEIGHT {
-            return at;
-        }
-        prefix[at] = matrix[i];
-        at += 1;
-        i += 1;
-    }
-    at
+    let from = blocks.used.min(Table::WEIGHT);
+    let size = matrix.len().min(Table::WEIGHT - from);
+    let end = from + size;
+    blocks.nodes[from..end].copy_from_slice(&matrix[..size]);
+    blocks.used = end;
 }
 
 // Stage 1: it refuses nothing.
-fn simplified<'a>(
-    nodes: &[u64; Table::WEIGHT],
-    used: usize,
-    text: &'a [u8],
-    made: &'a [u8],
-    out: &mut [u8],
-) -> Answer
-    requires { length nodes.now ≡ house.weight }
-    ensures { (f : Formula) → Rule text.now (as_table nodes.now used) f → ShowsTree to_simplified f out.old result out.new }
+fn simplified(rule: &[u64], spellings: Spellings, out: &mut [u8]) -> Result<usize, Refusal>
+    ensures { (f : Formula) → Rule spellings.entry.text.now rule.now f → ShowsTree to_simplified f out.old result out.new }
 {
-    let mut simple = [0u64; Table::WEIGHT];
-    let n = simplify::simplify(nodes, used, text, made, &mut simple);
-    show(&simple, n, text, made, out)
+    let mut form = Table::empty();
+    simplify::simplify(rule, spellings, &mut form);
+    show(form.words(), spellings, out)
 }
 
 // Stage 4.
-fn negated<'a>(
-    nodes: &[u64; Table::WEIGHT],
-    text: &'a [u8],
-    made: &'a [u8],
-    out: &mut [u8],
-) -> Answer
-    requires { length nodes.now ≡ house.weight }
-    ensures { (n : ℕ) (f : Formula) → Rule text.now (as_table nodes.now n) f → ShowsTree to_nnf f out.old result out.new }
+fn negated(rule: &[u64], spellings: Spellings, out: &mut [u8]) -> Result<usize, Refusal>
+    ensures { (f : Formula) → Rule spellings.entry.text.now rule.now f → ShowsTree to_nnf f out.old result out.new }
 {
-    let mut form = [0u64; Table::WEIGHT];
-    let s = negation_form(nodes, &mut form);
-    let fate = s.fate;
-    match fate {
-        Stage::Full => Answer::Weight(4),
-        Stage::Made => show(&form, s.used, text, made, out),
-    }
+    let mut form = Table::empty();
+    negation_form(rule, &mut form)?;
+    show(form.words(), spellings, out)
 }
 
 // Stages 1 and 2.
-fn outward(nodes: &[u64; Table::WEIGHT], used: usize, text: &[u8], made: &mut [u8]) -> Prenexed
-    requires { length nodes.now ≡ house.weight }
-    ensures { Prenexes text.now made.old nodes.now used made.new result }
+fn outward(rule: &[u64], text: &[u8], made: &mut [u8]) -> Result<Prenexed, prenex::Unmade>
+    ensures { Prenexes text.now made.old rule.now made.new result }
 {
-    let mut simple = [0u64; Table::WEIGHT];
-    simplify::simplify(nodes, used, text, made, &mut simple);
-    prenex::prenex(&simple, text, made)
+    let mut simple = Table::empty();
+    simplify::simplify(rule, Spellings { text, made }, &mut simple);
+    prenex::prenex(simple.words(), text, made)
 }
 
 // The prenex form.
-fn prenexed(
-    nodes: &[u64; Table::WEIGHT],
-    used: usize,
-    text: &[u8],
-    made: &mut [u8],
-    out: &mut [u8],
-) -> Answer
-    requires { length nodes.now ≡ house.weight }
-    ensures { published house ≤ length made.old → (f : Formula) → Rule text.now (as_table nodes.now used) f → ShowsTree to_pnf f out.old result out.new }
+fn prenexed(rule: &[u64], text: &[u8], made: &mut [u8], out: &mut [u8]) -> Result<usize, Refusal>
+    ensures { published house ≤ length made.old → (f : Formula) → Rule text.now rule.now f → ShowsTree to_pnf f out.old result out.new }
 {
-    let p = outward(nodes, used, text, made);
-    let fate = p.fate;
-    match fate {
-        prenex::Fate::Heavy => Answer::Weight(2),
-        prenex::Fate::Long => Answer::Name(2),
-        // Does not come up: work has its published size.
-        prenex::Fate::Unfit => Answer::Work,
-        prenex::Fate::Made => {
-            let mut blocks = p.prefix;
-            let bound = blocks.used;
-            let n = join(&mut blocks.nodes, bound, &p.matrix.nodes, p.matrix.used);
-            show(&blocks.nodes, n, text, made, out)
-        }
-    }
+    let mut form = outward(rule, text, made)?;
+    let Prenexed { prefix, matrix, .. } = &mut form;
+    join(prefix, matrix.words());
+    show(prefix.words(), Spellings { text, made }, out)
 }
 
 // Stage 5 of a matrix in negation form, and its listing.
-fn listed<'a>(
+fn listed(
     conjunctive: bool,
-    nodes: &'a [u64; Table::WEIGHT],
-    used: usize,
-    text: &'a [u8],
-    made: &'a [u8],
+    matrix: &[u64],
+    spellings: Spellings,
     out: &mut [u8],
-) -> Answer
-    requires { length nodes.now ≡ house.weight }
-    ensures { (g : Formula) → ready g ≡ true → Holds text.now made.now (as_table nodes.now used) g
-        → Answered (refused_if (too_many house (raw (marked conjunctive) g)) 8 5 (given (listing (clause_set (marked conjunctive) g)))) out.old result out.new }
+) -> Result<usize, Refusal>
+    ensures { (g : Formula) → ready g ≡ true → length matrix.now ≤ house.weight
+        → tokens spellings.entry.text.now spellings.entry.made.now matrix.now ≡ code g
+        → Answered (refused_if (too_many house (raw (marked conjunctive) g)) 8 5 (given (listing (clause_set (marked conjunctive) g))))
+        out.old result out.new }
 {
-    let mut atoms = [0u64; Table::WEIGHT];
-    let mut literals = [0u64; Set::LITERALS];
-    let mut index = [0u64; Set::CLAUSES];
-    let a = clauses::clauses(
-        conjunctive,
-        nodes,
-        used,
-        text,
-        made,
-        &mut atoms,
-        &mut literals,
-        &mut index,
-    );
-    let fate = a.fate;
-    match fate {
-        clauses::Fate::TooMany => Answer::Clauses,
-        clauses::Fate::Given => {
-            match write_listing(a.set, &atoms, &literals, &index, nodes, text, made, out) {
-                Written::Length(n) => Answer::Length(n),
-                Written::NoRoom => Answer::Room,
-            }
-        }
-    }
+    let mut set = Set::empty();
+    clauses::clauses(conjunctive, matrix, spellings, &mut set)?;
+    let source = Source {
+        atoms: set.atoms.words(),
+        literals: &set.literals,
+        index: set.front(),
+        words: matrix,
+        spellings,
+    };
+    write_listing(source, out).ok_or(Refusal::Room)
 }
 
 // Stages 4 and 5 of a matrix.
-fn clausal<'a>(
+fn clausal(
     conjunctive: bool,
-    matrix: &[u64; Table::WEIGHT],
-    text: &'a [u8],
-    made: &'a [u8],
+    matrix: &[u64],
+    spellings: Spellings,
     out: &mut [u8],
-) -> Answer
-    requires { length matrix.now ≡ house.weight }
-    ensures { (n : ℕ) (m : Formula) → no_block m ≡ true → Narrow m → Holds text.now made.now (as_table matrix.now n) m
+) -> Result<usize, Refusal>
+    ensures { (m : Formula) → no_block m ≡ true → Narrow m → tokens spellings.entry.text.now spellings.entry.made.now matrix.now ≡ code m
         → Answered (as_clauses house (marked conjunctive) m) out.old result out.new }
 {
-    let mut form = [0u64; Table::WEIGHT];
-    let s = negation_form(matrix, &mut form);
-    let fate = s.fate;
-    match fate {
-        Stage::Full => Answer::Weight(4),
-        Stage::Made => listed(conjunctive, &form, s.used, text, made, out),
-    }
+    let mut form = Table::empty();
+    negation_form(matrix, &mut form)?;
+    listed(conjunctive, form.words(), spellings, out)
 }
 
 // What follows stage 3.
-fn ended<'a>(
+fn ended(
     last: Last,
-    blocks: &mut [u64; Table::WEIGHT],
-    bound: usize,
-    body: &[u64; Table::WEIGHT],
-    size: usize,
-    text: &'a [u8],
-    made: &'a [u8],
+    blocks: &mut Table,
+    body: &[u64],
+    spellings: Spellings,
     out: &mut [u8],
-) -> Answer
-    requires { (length blocks.old ≡ house.weight) × (length body.now ≡ house.weight) }
-    ensures { (s : Skolemised) → weight (skolem_formula s) ≤ house.weight → no_block s.matrix ≡ true → Narrow s.matrix → bound ≤ house.weight
-        → tokens text.now made.now (take bound blocks.old) ≡ prefix_code s.prefix
-        → Holds text.now made.now (as_table body.now size) s.matrix → Answered (ending last s) out.old result out.new }
+) -> Result<usize, Refusal>
+    ensures { (s : Skolemised) → weight (skolem_formula s) ≤ house.weight → no_block s.matrix ≡ true → Narrow s.matrix → blocks.old.used ≤ house.weight
+        → tokens spellings.entry.text.now spellings.entry.made.now (words_of blocks.old) ≡ prefix_code s.prefix
+        → tokens spellings.entry.text.now spellings.entry.made.now body.now ≡ code s.matrix
+        → Answered (ending last s) out.old result out.new }
 {
     match last {
         Last::Form => {
-            let n = join(blocks, bound, body, size);
-            show(blocks, n, text, made, out)
+            join(blocks, body);
+            show(blocks.words(), spellings, out)
         }
-        Last::Conjunctive => clausal(true, body, text, made, out),
-        Last::Disjunctive => clausal(false, body, text, made, out),
+        Last::Conjunctive => clausal(true, body, spellings, out),
+        Last::Disjunctive => clausal(false, body, spellings, out),
     }
 }
 
-// Stage 3 of a prenex form, and what follows.
-fn skolem_stage<'a>(
+// Stage 3 of a prenex form, of whose blocks `prefix` has the words, and of whose matrix `matrix`, and what follows. The first `used` bytes of
+// `made` are its made names.
+fn skolem_stage(
     last: Last,
-    prefix: &'a [u64; Table::WEIGHT],
-    bound: usize,
-    matrix: &'a [u64; Table::WEIGHT],
-    size: usize,
+    prefix: &[u64],
+    matrix: &[u64],
+    used: usize,
     text: &[u8],
     made: &mut [u8],
-    used: usize,
     out: &mut [u8],
-) -> Answer
-    requires { (length prefix.now ≡ house.weight) × (length matrix.now ≡ house.weight) }
+) -> Result<usize, Refusal>
     ensures { published house ≤ length made.old → used ≤ 25 * house.weight → (p : Prenex) → Tame (formula p)
-        → Apart text.now made.old used (as_table prefix.now bound) (as_table matrix.now size) p
+        → Parts text.now made.old used prefix.now matrix.now p
         → Answered (stage house 3 (skolem_formula (skolem_form p zero_counts)) (ending last (skolem_form p zero_counts))) out.old result out.new }
 {
-    let mut blocks = [0u64; Table::WEIGHT];
-    let mut body = [0u64; Table::WEIGHT];
-    let s = skolemise(
+    let mut blocks = Table::empty();
+    let mut body = Table::empty();
+    skolemise(
         prefix,
-        bound,
         matrix,
-        size,
         text,
         made,
         used,
         Counters::start(),
         &mut blocks,
         &mut body,
-    );
-    let fate = s.fate;
-    match fate {
-        skolem::Fate::Heavy => Answer::Weight(3),
-        // Does not come up: work has its published size.
-        skolem::Fate::NoRoom => Answer::Work,
-        skolem::Fate::Made => ended(last, &mut blocks, s.blocks, &body, s.body, text, made, out),
-    }
+    )?;
+    ended(
+        last,
+        &mut blocks,
+        body.words(),
+        Spellings { text, made },
+        out,
+    )
 }
 
 // Stages 1 to 3, with refusal 5 before them, and what follows.
 fn skolemised(
     last: Last,
-    nodes: &[u64; Table::WEIGHT],
-    used: usize,
+    rule: &[u64],
     text: &[u8],
     made: &mut [u8],
     out: &mut [u8],
-) -> Answer
-    requires { length nodes.now ≡ house.weight }
-    ensures { published house ≤ length made.old → (f : Formula) → Rule text.now (as_table nodes.now used) f
+) -> Result<usize, Refusal>
+    ensures { published house ≤ length made.old → (f : Formula) → Rule text.now rule.now f
         → Answered (through_skolem house f (ending last (snf f))) out.old result out.new }
 {
-    if has_hash(nodes, used, text, made) {
-        return Answer::Hash;
+    if has_hash(rule, Spellings { text, made }) {
+        return Err(Refusal::Hash);
     }
-    let p = outward(nodes, used, text, made);
-    let fate = p.fate;
-    match fate {
-        prenex::Fate::Heavy => Answer::Weight(2),
-        prenex::Fate::Long => Answer::Name(2),
-        // Does not come up: work has its published size.
-        prenex::Fate::Unfit => Answer::Work,
-        prenex::Fate::Made => skolem_stage(
-            last,
-            &p.prefix.nodes,
-            p.prefix.used,
-            &p.matrix.nodes,
-            p.matrix.used,
-            text,
-            made,
-            p.made,
-            out,
-        ),
-    }
+    let form = outward(rule, text, made)?;
+    skolem_stage(
+        last,
+        form.prefix.words(),
+        form.matrix.words(),
+        form.made,
+        text,
+        made,
+        out,
+    )
 }
 
 // Whether a shape is a prenex form's.
 fn is_prenex(shape: Shape) -> bool
     ensures { result ≡ prenex_shape shape }
 {
-    match shape {
-        Shape::Skolem => true,
-        Shape::Prenex => true,
-        Shape::Other => false,
-    }
+    matches!(shape, Shape::Skolem | Shape::Prenex)
 }
 
 // Stage 3 of a rule in prenex form, with refusals 4 and 5 before it.
-fn of_prenex(
-    nodes: &[u64; Table::WEIGHT],
-    used: usize,
-    text: &[u8],
-    made: &mut [u8],
-    out: &mut [u8],
-) -> Answer
-    requires { length nodes.now ≡ house.weight }
-    ensures { published house ≤ length made.old → (f : Formula) → Rule text.now (as_table nodes.now used) f → ShowsTree pnf_to_snf f out.old result out.new }
+fn of_prenex(rule: &[u64], text: &[u8], made: &mut [u8], out: &mut [u8]) -> Result<usize, Refusal>
+    ensures { published house ≤ length made.old → (f : Formula) → Rule text.now rule.now f → ShowsTree pnf_to_snf f out.old result out.new }
 {
-    if !is_prenex(shape_of(nodes, used)) {
-        return Answer::Shape;
+    if !is_prenex(shape_of(rule)) {
+        return Err(Refusal::Shape);
     }
-    if has_hash(nodes, used, text, made) {
-        return Answer::Hash;
+    if has_hash(rule, Spellings { text, made }) {
+        return Err(Refusal::Hash);
     }
-    let mut matrix = [0u64; Table::WEIGHT];
-    let halves = split(nodes, used, &mut matrix);
-    skolem_stage(
-        Last::Form,
-        nodes,
-        halves.prefix,
-        &matrix,
-        halves.matrix,
-        text,
-        made,
-        0,
-        out,
-    )
+    let (prefix, matrix) = split(rule);
+    skolem_stage(Last::Form, prefix, matrix, 0, text, made, out)
 }
 
 // Stages 4 and 5 of a rule in Skolem form, with refusal 4 before them.
-fn of_skolem<'a>(
+fn of_skolem(
     conjunctive: bool,
-    nodes: &[u64; Table::WEIGHT],
-    used: usize,
-    text: &'a [u8],
-    made: &'a [u8],
+    rule: &[u64],
+    spellings: Spellings,
     out: &mut [u8],
-) -> Answer
-    requires { length nodes.now ≡ house.weight }
-    ensures { (f : Formula) → Rule text.now (as_table nodes.now used) f → Answered (of_skolem_stage conjunctive f) out.old result out.new }
+) -> Result<usize, Refusal>
+    ensures { (f : Formula) → Rule spellings.entry.text.now rule.now f → Answered (of_skolem_stage conjunctive f) out.old result out.new }
 {
-    match shape_of(nodes, used) {
-        Shape::Other => Answer::Shape,
-        Shape::Prenex => Answer::Shape,
+    match shape_of(rule) {
+        Shape::Other | Shape::Prenex => Err(Refusal::Shape),
         Shape::Skolem => {
-            let mut matrix = [0u64; Table::WEIGHT];
-            split(nodes, used, &mut matrix);
-            clausal(conjunctive, &matrix, text, made, out)
+            let (_, matrix) = split(rule);
+            clausal(conjunctive, matrix, spellings, out)
         }
     }
 }
 
-// The stages that a conversion passes.
+// The stages that a conversion passes. A match and no closure: the caller names the conversion.
+#[tactic(auto, unfolding(definitions::specs::Convert::convert_tree))]
 pub(crate) fn staged(
     which: Conversion,
-    nodes: &[u64; Table::WEIGHT],
-    used: usize,
+    rule: &[u64],
     text: &[u8],
     made: &mut [u8],
     out: &mut [u8],
-) -> Answer
-    requires { length nodes.now ≡ house.weight }
-    ensures { published house ≤ length made.old → (f : Formula) → Rule text.now (as_table nodes.now used) f → ShowsTree (named which) f out.old result out.new }
+) -> Result<usize, Refusal>
+    ensures { published house ≤ length made.old → (f : Formula) → Rule text.now rule.now f → ShowsTree (named which) f out.old result out.new }
 {
     match which {
-        Conversion::Simplify => simplified(nodes, used, text, made, out),
-        Conversion::Nnf => negated(nodes, text, made, out),
-        Conversion::Pnf => prenexed(nodes, used, text, made, out),
-        Conversion::Snf => skolemised(Last::Form, nodes, used, text, made, out),
-        Conversion::Cnf => skolemised(Last::Conjunctive, nodes, used, text, made, out),
-        Conversion::Dnf => skolemised(Last::Disjunctive, nodes, used, text, made, out),
-        Conversion::PnfSnf => of_prenex(nodes, used, text, made, out),
-        Conversion::SnfCnf => of_skolem(true, nodes, used, text, made, out),
-        Conversion::SnfDnf => of_skolem(false, nodes, used, text, made, out),
+        Conversion::Simplify => simplified(rule, Spellings { text, made }, out),
+        Conversion::Nnf => negated(rule, Spellings { text, made }, out),
+        Conversion::Pnf => prenexed(rule, text, made, out),
+        Conversion::Snf => skolemised(Last::Form, rule, text, made, out),
+        Conversion::Cnf => skolemised(Last::Conjunctive, rule, text, made, out),
+        Conversion::Dnf => skolemised(Last::Disjunctive, rule, text, made, out),
+        Conversion::PnfSnf => of_prenex(rule, text, made, out),
+        Conversion::SnfCnf => of_skolem(true, rule, Spellings { text, made }, out),
+        Conversion::SnfDnf => of_skolem(false, rule, Spellings { text, made }, out),
     }
 }

@@ -4,11 +4,12 @@ use Prim.Native.Nat.{ℕ}
 use Rattle.definitions.specs.Bytes.{Bytes}
 use Rattle.definitions.specs.Convert.{Conversion}
 use Rattle.convert.specs.Answers.{meaning, number_of, place_of, Meets}
-use Rattle.convert.specs.declared.Answer.{Answer}
+use Rattle.std.specs.Prelude.{Result}
+use Rattle.convert.specs.declared.Refusal.{Refusal}
 use Rattle.exports.specs.Calls.{Calls}
 
 pub told
-    : {c : Conversion} {text out work out' work' : Bytes} {r : Answer} {number place : ℕ}
+    : {c : Conversion} {text out work out' work' : Bytes} {r : Result ℕ Refusal} {number place : ℕ}
     → Meets c text out work r out' work'
     → number ≡ number_of (meaning r)
     → place ≡ place_of (meaning r)

@@ -1,10 +1,21 @@
 // The nine conversions for programs in C and Rust. Each returns the refusal's number, or 0; place then holds its place, or the text's length.
+// Nine functions of one line: their names are the C interface.
 #![tactic(auto)]
 
 ghost use Rattle.definitions.specs.Convert.{to_simplified, to_nnf, to_pnf, to_snf, to_cnf, to_dnf, pnf_to_snf, snf_to_cnf, snf_to_dnf};
+ghost use Rattle.convert.specs.Answers.{named};
 ghost use Rattle.exports.specs.Calls.{Calls};
 
-use convert::{number_of, place_of};
+use convert::{Conversion, convert, number_of, place_of};
+
+// The conversion that is named, with its answer in two numbers.
+fn call(which: Conversion, text: &[u8], out: &mut [u8], work: &mut [u8], place: &mut usize) -> u64
+    ensures { Calls (named which) text.now out.old work.old result place.new out.new work.new }
+{
+    let answer = convert(which, text, out, work);
+    *place = place_of(answer);
+    number_of(answer)
+}
 
 #[unsafe(no_mangle)]
 pub extern "C" fn wasileko_simplify(
@@ -15,9 +26,7 @@ pub extern "C" fn wasileko_simplify(
 ) -> u64
     ensures { Calls to_simplified text.now out.old work.old result place.new out.new work.new }
 {
-    let answer = convert::simplify(text, out, work);
-    *place = place_of(answer);
-    number_of(answer)
+    call(Conversion::Simplify, text, out, work, place)
 }
 
 #[unsafe(no_mangle)]
@@ -29,9 +38,7 @@ pub extern "C" fn wasileko_nnf(
 ) -> u64
     ensures { Calls to_nnf text.now out.old work.old result place.new out.new work.new }
 {
-    let answer = convert::nnf(text, out, work);
-    *place = place_of(answer);
-    number_of(answer)
+    call(Conversion::Nnf, text, out, work, place)
 }
 
 #[unsafe(no_mangle)]
@@ -43,9 +50,7 @@ pub extern "C" fn wasileko_pnf(
 ) -> u64
     ensures { Calls to_pnf text.now out.old work.old result place.new out.new work.new }
 {
-    let answer = convert::pnf(text, out, work);
-    *place = place_of(answer);
-    number_of(answer)
+    call(Conversion::Pnf, text, out, work, place)
 }
 
 #[unsafe(no_mangle)]
@@ -57,9 +62,7 @@ pub extern "C" fn wasileko_snf(
 ) -> u64
     ensures { Calls to_snf text.now out.old work.old result place.new out.new work.new }
 {
-    let answer = convert::snf(text, out, work);
-    *place = place_of(answer);
-    number_of(answer)
+    call(Conversion::Snf, text, out, work, place)
 }
 
 #[unsafe(no_mangle)]
@@ -71,9 +74,7 @@ pub extern "C" fn wasileko_cnf(
 ) -> u64
     ensures { Calls to_cnf text.now out.old work.old result place.new out.new work.new }
 {
-    let answer = convert::cnf(text, out, work);
-    *place = place_of(answer);
-    number_of(answer)
+    call(Conversion::Cnf, text, out, work, place)
 }
 
 #[unsafe(no_mangle)]
@@ -85,9 +86,7 @@ pub extern "C" fn wasileko_dnf(
 ) -> u64
     ensures { Calls to_dnf text.now out.old work.old result place.new out.new work.new }
 {
-    let answer = convert::dnf(text, out, work);
-    *place = place_of(answer);
-    number_of(answer)
+    call(Conversion::Dnf, text, out, work, place)
 }
 
 #[unsafe(no_mangle)]
@@ -99,9 +98,7 @@ pub extern "C" fn wasileko_pnf_snf(
 ) -> u64
     ensures { Calls pnf_to_snf text.now out.old work.old result place.new out.new work.new }
 {
-    let answer = convert::pnf_snf(text, out, work);
-    *place = place_of(answer);
-    number_of(answer)
+    call(Conversion::PnfSnf, text, out, work, place)
 }
 
 #[unsafe(no_mangle)]
@@ -113,9 +110,7 @@ pub extern "C" fn wasileko_snf_cnf(
 ) -> u64
     ensures { Calls snf_to_cnf text.now out.old work.old result place.new out.new work.new }
 {
-    let answer = convert::snf_cnf(text, out, work);
-    *place = place_of(answer);
-    number_of(answer)
+    call(Conversion::SnfCnf, text, out, work, place)
 }
 
 #[unsafe(no_mangle)]
@@ -127,7 +122,5 @@ pub extern "C" fn wasileko_snf_dnf(
 ) -> u64
     ensures { Calls snf_to_dnf text.now out.old work.old result place.new out.new work.new }
 {
-    let answer = convert::snf_dnf(text, out, work);
-    *place = place_of(answer);
-    number_of(answer)
+    call(Conversion::SnfDnf, text, out, work, place)
 }

@@ -1,5 +1,5 @@
 // The functions of `exports` as a static library: a crate is a library or a static library, and not both. Each calls its namesake and
-// states its clause again.
+// states its clause again: the nine names are the C interface.
 #![tactic(auto)]
 
 ghost use Rattle.definitions.specs.Convert.{to_simplified, to_nnf, to_pnf, to_snf, to_cnf, to_dnf, pnf_to_snf, snf_to_cnf, snf_to_dnf};

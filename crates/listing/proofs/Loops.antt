@@ -7,13 +7,11 @@ use native.Mathlib.Omega.{arith}
 use lib.ListN.{length, take, drop, get_or, length-append, take-append-drop}
 use lib.Seq.{take-suc, take_all}
 use Rattle.definitions.specs.Bytes.{Bytes}
-use Rattle.writer.specs.declared.Written.{Written}
-use Rattle.writer.specs.declared.Written.TheVariants.{Length, NoRoom}
+use Rattle.std.specs.Prelude.{Option, Some, None}
 use Rattle.writer.specs.Writer.{Measured, Wrote}
 use Rattle.writer.specs.PutLaws.{wrote_none, wrote_both}
-use Rattle.writer.specs.MeasureLaws.{too_long, short_enough, was_short, was_long}
+use Rattle.writer.specs.MeasureLaws.{too_long, short_enough, was_short, was_long, was_size}
 use Rattle.listing.specs.Texts.{each_text}
-use Rattle.listing.proofs.Pieces.{was_size}
 
 each_append : (f : ℕ → Bytes) (a b : List ℕ) → each_text f (a ++ b) ≡ each_text f a ++ each_text f b
 unfolding each_text
@@ -23,13 +21,6 @@ each_append f (x ∷ a) b = rw (each_append f a b) (sym (append_assoc (f x) (eac
 single : (f : ℕ → Bytes) (x : ℕ) → each_text f (x ∷ []) ≡ f x
 unfolding each_text
 single f x = append-nil (f x)
-
--- the room for a head, and behind it for the rest
-pub head_room : (at : ℕ) {n : ℕ} (h t : Bytes) → at + length (h ++ t) ≤ n → at + length h ≤ n
-head_room at h t k = omega (arith, length-append h t)
-
-pub rest_room : {o o₁ h : Bytes} {at n : ℕ} (t : Bytes) → at + length (h ++ t) ≤ length o → Wrote o at h o₁ n → n + length t ≤ length o₁
-rest_room {h = h} t k w = omega (arith, length-append h t, w.ends, w.size)
 
 module _ (f : ℕ → Bytes) (l : List ℕ) where
   -- the text of the first i words
@@ -72,29 +63,29 @@ module _ (f : ℕ → Bytes) (l : List ℕ) where
       pub within : size ≤ room
       pub is : length h + length (so_far i) ≡ size
 
-    pub counted_start : {room n : ℕ} {r : Written} → Measured h room r → r ≡ Length n → Counted room 0 n
+    pub counted_start : {room n : ℕ} {r : Option ℕ} → Measured h room r → r ≡ Some n → Counted room 0 n
     unfolding each_text
     counted_start m e = record { within = omega (arith, was_short m e, was_size m e); is = omega (arith, was_size m e) }
 
     -- no room for the head
-    pub headless : {room : ℕ} {r : Written} → Measured h room r → r ≡ NoRoom → Measured (h ++ each_text f l) room NoRoom
+    pub headless : {room : ℕ} {r : Option ℕ} → Measured h room r → r ≡ None → Measured (h ++ each_text f l) room None
     headless {room} m e = too_long (h ++ each_text f l) room (omega (arith, was_long m e, length-append h (each_text f l)))
 
     module _ {room i size : ℕ} (c : Counted room i size) where
-      pub counted_end : length l ≤ i → Measured (h ++ each_text f l) room (Length size)
+      pub counted_end : length l ≤ i → Measured (h ++ each_text f l) room (Some size)
       counted_end k =
           let e : length (h ++ each_text f l) ≡ size = omega (arith, length-append h (each_text f l), ap length (all_of i k), c.is) in
           short_enough (h ++ each_text f l) room size (omega (arith, e, c.within)) e
 
-      module _ {r : Written} (k : i < length l) (m : Measured (f (get_or l i 0)) (room - size) r) where
-        pub counted_on : {n : ℕ} → r ≡ Length n → Counted room (i + 1) (size + n)
+      module _ {r : Option ℕ} (k : i < length l) (m : Measured (f (get_or l i 0)) (room - size) r) where
+        pub counted_on : {n : ℕ} → r ≡ Some n → Counted room (i + 1) (size + n)
         counted_on e =
             record {
               within = omega (arith, c.within, was_short m e, was_size m e);
               is = omega (arith, c.is, next_length i k, was_size m e);
             }
 
-        pub counted_out : r ≡ NoRoom → Measured (h ++ each_text f l) room NoRoom
+        pub counted_out : r ≡ None → Measured (h ++ each_text f l) room None
         counted_out e =
             too_long (h ++ each_text f l) room
             (omega (arith, c.within, c.is, next_length i k, shorter (i + 1), was_long m e, length-append h (each_text f l)))

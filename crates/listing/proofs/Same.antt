@@ -1,28 +1,26 @@
--- The text of the tables of a set that stands for clauses is the listing of these clauses; so measuring and writing that text is what
+-- The text of a source that stands for clauses is the listing of these clauses; so measuring and writing that text is what
 -- `Lists` asks for.
 use mathlib.Core.Path.{◌≡◌, refl, sym, ap, ◌∙◌}
 use mathlib.Core.List.{List, [], ◌∷◌, ◌++◌, map, append_assoc}
 use Prim.Native.Nat.{ℕ, suc, ◌+◌, ◌%◌, ◌≤◌, ◌<◌}
 use native.Mathlib.Omega.{arith}
 use borrow.Author.Tests.{le-leb, lt-leb}
-use lib.ListN.{length, take, get_or, length-take, length-map}
-use lib.Seq.{get_or-take}
+use lib.ListN.{length, get_or, length-map}
 use Rattle.definitions.specs.Bytes.{Bytes, LF}
 use Rattle.definitions.specs.RuleText.{written}
 use Rattle.definitions.specs.Order.{Atom, Literal, pos, opp, Clause}
 use Rattle.definitions.specs.Clauses.{atom_formula, literal_word, literal_atom, literals_text, clause_word, counted_line, clauses_text, listing}
 use Rattle.text.specs.Words.{tokens}
-use Rattle.writer.specs.declared.Written.{Written}
-use Rattle.writer.specs.declared.Written.TheVariants.{Length, NoRoom}
+use Rattle.std.specs.Prelude.{Option, Some, None}
 use Rattle.writer.specs.Writer.{text_of, Measured, Wrote}
 use Rattle.writer.specs.WriterLaws.{text_of_code}
 use Rattle.writer.specs.MeasureLaws.{not_written, all_written}
-use Rattle.clauses.specs.declared.set.Set.{Set}
 use Rattle.clauses.specs.Each.{Each, none, more, At, first, later}
 use Rattle.clauses.specs.Ranks.{part}
-use Rattle.clauses.specs.Sets.{Numbered, positive, negative, Spelled, Denotes}
-use Rattle.listing.specs.Texts.{each_text, literal_text, clause_text, stored_text, set_text}
-use Rattle.listing.specs.Lists.{Lists}
+use Rattle.clauses.specs.Sets.{Numbered, positive, negative, Spelled}
+use Rattle.listing.specs.declared.source.Source.{Source}
+use Rattle.listing.specs.Texts.{each_text, literal_text, clause_text, stored_text, set_text, set_in}
+use Rattle.listing.specs.Lists.{Stands, Lists}
 
 same_length : {A B : Type 0} {R : A → B → Type 0} {l : List A} {m : List B} → Each R l m → length l ≡ length m
 same_length none = refl
@@ -38,13 +36,10 @@ place_below : {A : Type 0} {m : List A} {n : ℕ} {a : A} → At m n a → n < l
 place_below first = omega arith
 place_below (later k) = omega (arith, place_below k)
 
-module _ (T M : Bytes) (S store : List ℕ) (distinct : ℕ) (table : List ℕ) (atoms : List Atom) (few : length atoms ≤ 1024)
-    (spelled : Each (Spelled T M S) (take distinct table) atoms) where
+module _ (T M : Bytes) (S store table : List ℕ) (atoms : List Atom) (few : length atoms ≤ 1024) (spelled : Each (Spelled T M S) table atoms) where
   atom_text : (n : ℕ) (a : Atom) → At atoms n a → text_of (tokens T M (part S (get_or table n 0))) ≡ written (atom_formula a)
   atom_text n a k =
-      let h = here spelled k in
-      let e : get_or (take distinct table) n 0 ≡ get_or table n 0 = get_or-take distinct table n 0 (omega (arith, h.0, length-take distinct table)) in
-      rw (← e) (ap text_of h.1 ∙ text_of_code (atom_formula a))
+      ap text_of (here spelled k).1 ∙ text_of_code (atom_formula a)
 
   positive_same : (n : ℕ) (a : Atom) → At atoms n a → literal_text T M S table n ≡ literal_word (pos a) ++ (LF ∷ written (atom_formula a))
   unfolding literal_text
@@ -87,18 +82,16 @@ module _ (T M : Bytes) (S store : List ℕ) (distinct : ℕ) (table : List ℕ) 
   unfolding set_text listing
   set_same index e = rw (sym (length-map index (part store)) ∙ same_length e, clauses_same index e)
 
-pub listing_same : {T M : Bytes} {S A L X : List ℕ} {s : Set} {cs : List Clause} → Denotes T M S A L X s cs
-    → set_text T M S A L (take s.count X) ≡ listing cs
-listing_same {T} {M} {S} {A} {L} {X} {s} d = set_same T M S L s.distinct A d.atoms d.few d.spelled (take s.count X) d.listed
+pub listing_same : (s : Source) {cs : List Clause} → Stands s cs → set_in s ≡ listing cs
+listing_same s d = set_same s.spellings.text.now s.spellings.made.now s.words.now s.literals.now s.atoms.now d.atoms d.few d.spelled s.index.now d.listed
 
-module _ {T M : Bytes} {S A L X : List ℕ} {s : Set} {o : Bytes} {r : Written} (index : List ℕ) (e : index ≡ take s.count X)
-    (m : Measured (set_text T M S A L index) (length o) r) where
-  pub not_listed : r ≡ NoRoom → Lists T M S A L X s o o NoRoom
-  not_listed q = record { listed = λ cs d. not_written (rw (e, listing_same d) at m) q; kept = λ z. refl }
+module _ (s : Source) {o : Bytes} {r : Option ℕ} (m : Measured (set_in s) (length o) r) where
+  pub not_listed : r ≡ None → Lists s o o None
+  not_listed q = record { listed = λ cs d. not_written (rw (listing_same s d) at m) q; kept = λ z. refl }
 
-  pub all_listed : {n k : ℕ} {o₁ : Bytes} → r ≡ Length n → Wrote o 0 (set_text T M S A L index) o₁ k → Lists T M S A L X s o o₁ (Length n)
+  pub all_listed : {n k : ℕ} {o₁ : Bytes} → r ≡ Some n → Wrote o 0 (set_in s) o₁ k → Lists s o o₁ (Some n)
   all_listed {n} q w =
-      record { listed = λ cs d. all_written (rw (e, listing_same d) at m) q (rw (e, listing_same d) at w); kept = λ z. absurd (never z) }
+      record { listed = λ cs d. all_written (rw (listing_same s d) at m) q (rw (listing_same s d) at w); kept = λ z. absurd (never z) }
     where
-      never : Length n ≡ NoRoom → ⊥
+      never : Some n ≡ None → ⊥
       never z = let y : ◌≡◌ {A = ℕ} 0 1 = cc in omega arith

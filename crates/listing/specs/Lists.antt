@@ -1,16 +1,18 @@
 -- What writing a listing answers.
-use Rattle.std.specs.Prelude.{◌≡◌, List, ℕ}
+use Rattle.std.specs.Prelude.{◌≡◌, List, ℕ, Option, None}
 use Rattle.definitions.specs.Bytes.{Bytes}
 use Rattle.definitions.specs.Order.{Clause}
 use Rattle.definitions.specs.Clauses.{listing}
-use Rattle.writer.specs.declared.Written.{Written}
-use Rattle.writer.specs.declared.Written.TheVariants.{NoRoom}
 use Rattle.writer.specs.Writer.{Writes}
-use Rattle.clauses.specs.declared.set.Set.{Set}
-use Rattle.clauses.specs.Sets.{Denotes}
+use Rattle.clauses.specs.Sets.{Denoted}
+use Rattle.listing.specs.declared.source.Source.{Source}
 
--- The listing of what a set stands for is written to out, or out is too short and unchanged. Where a set stands for nothing, out is
--- unchanged too if the answer is NoRoom.
-pub record Lists (T M : Bytes) (S A L X : List ℕ) (s : Set) (out out' : Bytes) (r : Written) : Type 0 where
-  pub listed : (cs : List Clause) → Denotes T M S A L X s cs → Writes (listing cs) out out' r
-  pub kept : r ≡ NoRoom → out' ≡ out
+-- a source stands for clauses: any lists do, of any length
+abbrev pub Stands : Source → List Clause → Type 0
+Stands s cs = Denoted s.spellings.text.now s.spellings.made.now s.words.now s.atoms.now s.literals.now s.index.now cs
+
+-- The listing of what a source stands for is written to out, or out is too short and unchanged. Where a source stands for nothing, out is
+-- unchanged too if the answer is None.
+pub record Lists (s : Source) (out out' : Bytes) (r : Option ℕ) : Type 0 where
+  pub listed : (cs : List Clause) → Stands s cs → Writes (listing cs) out out' r
+  pub kept : r ≡ None → out' ≡ out

@@ -1,106 +1,76 @@
--- The laws of runs: one after another, twice over the same tokens, one that stops, one that writes a word, one that copies a word, and
--- what a run says of a whole table.
-use Prim.Native.Nat.{ℕ, suc, ◌+◌, ◌<◌, ◌≤◌}
-use native.Mathlib.Omega.{arith}
-use native.Mathlib.Numerals.{add-one}
-use mathlib.Core.Bool.{Bool, true, false, false≢true}
-use mathlib.Core.Path.{◌≡◌, refl, sym, ap, ◌∙◌}
-use mathlib.Core.List.{List, [], ◌∷◌, ◌++◌, map, map-append, append_assoc}
-use lib.ListN.{length, take, drop, set, get_or, length-append, length-map, length-take, length-drop, take-append-drop}
-use lib.Seq.{drop-cons, take-suc-set}
+-- The laws of runs: behind a word that is written, one after another, twice over the same tokens, one that stops, and one behind a word that
+-- is read.
+use Rattle.std.specs.Prelude.{◌≡◌, ℕ, ◌<◌, ◌≤◌, refl, List, [], ◌∷◌, ◌++◌, map, length, Ok, Err, IsErr}
+use Rattle.std.specs.Borrow.{Bor}
+use Rattle.std.proofs.Common.{sym, ap, ◌∙◌, arith, append_assoc, length-append, length-set}
+use Rattle.std.proofs.lemmas.List.{map-append, length-map}
+use Rattle.std.proofs.lemmas.Result.{MatchResult-from_err}
 use Rattle.definitions.specs.Limits.{house}
+use Rattle.text.specs.declared.table.Full.{Full}
+use Rattle.text.specs.declared.table.Table.{Table}
+use Rattle.text.specs.Tables.{words_of, pushed, pushed_words}
 use Rattle.text.specs.Words.{Token}
-use Rattle.negation.specs.declared.Went.{Went}
-use Rattle.negation.specs.Runs.{End, done, over, Runs, Fit, Safe}
+use Rattle.negation.specs.Runs.{Rest, Added, End, Runs}
 
--- a test that came out one way did not come out the other
-pub not_both : {b : Bool} → b ≡ false → b ≡ true → ⊥
-not_both p q = false≢true (sym p ∙ q)
+-- what is added to a table that was added to
+adds : {d : ℕ → Token} {t t₁ t₂ : Table} {o₁ o₂ : List Token} → Added d t t₁ o₁ → Added d t₁ t₂ o₂ → Added d t t₂ (o₁ ++ o₂)
+adds a b =
+    record {
+      used = simp length-append (omega (arith, a.used, b.used));
+      words = λ l. let e = a.words l in let f = b.words e.0 in (f.0, f.1 ∙ rw (e.1, append_assoc));
+    }
 
--- the count after a run that is done
-counted : (d : ℕ → Token) (o : List Token) {O O' : List ℕ} {used n : ℕ} → Fit O used → Fit O' n → map d (take n O') ≡ map d (take used O) ++ o → n ≡ used + length o
-counted d o f g e = omega (arith, simp (length-append, length-map, length-take) at (ap length e))
+-- so the end of a second run is the end of both
+further : {d : ℕ → Token} {t t₁ : Table} {o₁ : List Token} (r : Rest) (t₂ : Table) (rest o₂ : List Token) → Added d t t₁ o₁ → End d t₁ r t₂ rest o₂
+    → End d t r t₂ rest (o₁ ++ o₂)
+further (Err e) t₂ rest o₂ a x = simp length-append (omega (arith, a.used))
+further (Ok q) t₂ rest o₂ a x = (x.0, adds a x.1)
 
--- the end of a second run is the end of both
-further : {d : ℕ → Token} {S O : List ℕ} {used : ℕ} {O₁ : List ℕ} {n : ℕ} {q : Went} {O₂ : List ℕ} (o₁ : List Token) {rest o₂ : List Token} → Fit O used → Fit O₁ n → map d (take n O₁) ≡ map d (take used O) ++ o₁ → End d S O₁ n q O₂ rest o₂ → End d S O used q O₂ rest (o₁ ++ o₂)
-further o₁ f g e (done f₂ i o) = done f₂ i (o ∙ rw (e, append_assoc))
-further {d} o₁ f g e (over f₂ l) = over f₂ (simp length-append (omega (arith, counted d o₁ f g e)))
+-- a word that is put behind the words
+pushes : (d : ℕ → Token) {t t₁ : Table} (w : ℕ) → (t.used < house.weight) × (t₁ ≡ pushed t w) × (words_of t₁ ≡ words_of t ++ (w ∷ [])) → Added d t t₁ (d w ∷ [])
+pushes d {t} w p =
+    rw p.1 (record { used = refl; words = λ l. (length-set t.nodes t.used w ∙ l, rw (pushed_words t w l p.0) (map-append d _ _)) })
 
--- without room for o₁ there is none for more
-longer : {d : ℕ → Token} {S O : List ℕ} {used : ℕ} {r : Went} {O₁ : List ℕ} (o₂ rest₂ : List Token) {rest₁ o₁ : List Token} → r.stopped ≡ true → End d S O used r O₁ rest₁ o₁ → End d S O used r O₁ rest₂ (o₁ ++ o₂)
-longer o₂ rest₂ z (done f i o) = absurd (not_both f z)
-longer o₂ rest₂ z (over f l) = over f (simp length-append (omega arith))
-
-module _ {d : ℕ → Token} {S : List ℕ} {at : ℕ} {O : List ℕ} {used : ℕ} {r : Went} {O₁ : List ℕ} where
+module _ {d : ℕ → Token} {S : List ℕ} {t : Table} {t₁ : Table} where
   -- a run that is done, and a run after it
-  pub seq : {q : Went} {O₂ : List ℕ} {i₁ i₂ o₁ o₂ : List Token} → Fit O used → Fit O₁ r.used → r.stopped ≡ false → Runs d S at O used r O₁ i₁ o₁ → Runs d S r.next O₁ r.used q O₂ i₂ o₂ → Runs d S at O used q O₂ (i₁ ++ i₂) (o₁ ++ o₂)
-  seq {q} {O₂} {i₁} {i₂} {o₁} {o₂} f g z s t = record { ends = λ rest h. first rest (s.ends (i₂ ++ rest) (rw append_assoc at h)) }
-    where
-      first : (rest : List Token) → End d S O used r O₁ (i₂ ++ rest) o₁ → End d S O used q O₂ rest (o₁ ++ o₂)
-      first rest (done f₁ i o) = further o₁ f g o (t.ends rest i)
-      first rest (over f₁ l) = absurd (not_both z f₁)
+  pub seq : {q : Bor (List ℕ)} {r : Rest} {t₂ : Table} {i₁ i₂ o₁ o₂ : List Token} → Runs d S t (Ok q) t₁ i₁ o₁ → Runs d q.now t₁ r t₂ i₂ o₂
+      → Runs d S t r t₂ (i₁ ++ i₂) (o₁ ++ o₂)
+  seq {r = r} {i₂ = i₂} s u = record { ends = λ rest h. let e = s.ends (i₂ ++ rest) (rw append_assoc at h) in further r _ rest _ e.1 (u.ends rest e.0) }
 
   -- a run that is done, and a run over the same tokens again
-  pub again : {q : Went} {O₂ : List ℕ} {i o₁ o₂ : List Token} → Fit O used → Fit O₁ r.used → r.stopped ≡ false → Runs d S at O used r O₁ i o₁ → Runs d S at O₁ r.used q O₂ i o₂ → Runs d S at O used q O₂ i (o₁ ++ o₂)
-  again {q} {O₂} {i} {o₁} {o₂} f g z s t = record { ends = λ rest h. first rest (s.ends rest h) (t.ends rest h) }
-    where
-      first : (rest : List Token) → End d S O used r O₁ rest o₁ → End d S O₁ r.used q O₂ rest o₂ → End d S O used q O₂ rest (o₁ ++ o₂)
-      first rest (done f₁ i o) e = further o₁ f g o e
-      first rest (over f₁ l) e = absurd (not_both z f₁)
+  pub again : {q : Bor (List ℕ)} {r : Rest} {t₂ : Table} {i o₁ o₂ : List Token} → Runs d S t (Ok q) t₁ i o₁ → Runs d S t₁ r t₂ i o₂
+      → Runs d S t r t₂ i (o₁ ++ o₂)
+  again {r = r} s u = record { ends = λ rest h. further r _ rest _ (s.ends rest h).1 (u.ends rest h) }
 
   -- a run that found no room, whatever was to be read and written after it
-  pub stop : (i₂ o₂ : List Token) {i₁ o₁ : List Token} → r.stopped ≡ true → Runs d S at O used r O₁ i₁ o₁ → Runs d S at O used r O₁ (i₁ ++ i₂) (o₁ ++ o₂)
-  stop i₂ o₂ z s = record { ends = λ rest h. longer o₂ rest z (s.ends (i₂ ++ rest) (rw append_assoc at h)) }
+  pub stop : {e : Full} {r : Rest} (i₂ o₂ : List Token) {i₁ o₁ : List Token} → IsErr r → Runs d S t (Err e) t₁ i₁ o₁
+      → Runs d S t r t₁ (i₁ ++ i₂) (o₁ ++ o₂)
+  stop {r = r} i₂ o₂ z s =
+      record {
+        ends = λ rest h. MatchResult-from_err r _ _ z (λ _. simp length-append (omega (arith, s.ends (i₂ ++ rest) (rw append_assoc at h))));
+      }
 
-  pub stop_write : (o₂ : List Token) {i o₁ : List Token} → r.stopped ≡ true → Runs d S at O used r O₁ i o₁ → Runs d S at O used r O₁ i (o₁ ++ o₂)
-  stop_write o₂ z s = record { ends = λ rest h. longer o₂ rest z (s.ends rest h) }
+  pub stop_write : {e : Full} {r : Rest} (o₂ : List Token) {i o₁ : List Token} → IsErr r → Runs d S t (Err e) t₁ i o₁
+      → Runs d S t r t₁ i (o₁ ++ o₂)
+  stop_write {r = r} o₂ z s =
+      record { ends = λ rest h. MatchResult-from_err r _ _ z (λ _. simp length-append (omega (arith, s.ends rest h))) }
 
-  -- more tokens than the source has from here on
-  pub too_long : {i o : List Token} → length S ≡ house.weight → house.weight < at + length i → at ≤ house.weight → Runs d S at O used r O₁ i o
-  too_long {i} e h l = record { ends = λ rest x. absurd (omega (arith, simp (length-drop, length-append, length-map) at (ap length x))) }
+  -- a word is written, and a run goes on; or it finds no room
+  pub written : {w : ℕ} {r : Rest} {t₂ : Table} {i o : List Token} → (t.used < house.weight) × (t₁ ≡ pushed t w) × (words_of t₁ ≡ words_of t ++ (w ∷ [])) → Runs d S t₁ r t₂ i o
+      → Runs d S t r t₂ i (d w ∷ o)
+  written {w} {r} p s = record { ends = λ rest h. further r _ rest _ (pushes d w p) (s.ends rest h) }
 
--- what is safe after a call
-pub safe_stop : {least : ℕ} {r : Went} {O : List ℕ} → Fit O r.used → r.stopped ≡ true → Safe least r O
-safe_stop f z = record { fit = f; forth = λ e. absurd (not_both e z) }
+  pub no_room : {r : Rest} {k : Token} {i o : List Token} → house.weight ≤ t.used → IsErr r → Runs d S t r t₁ i (k ∷ o)
+  no_room {r} h z = record { ends = λ rest x. MatchResult-from_err r _ _ z (λ _. omega arith) }
 
-pub safe_at : {least : ℕ} {r : Went} {O : List ℕ} → Fit O r.used → least ≤ r.next → r.next ≤ house.weight → Safe least r O
-safe_at f h l = record { fit = f; forth = λ e. (h, l) }
-
-pub safe_past : {least n : ℕ} {r : Went} {O : List ℕ} → least ≤ n → Safe n r O → Safe least r O
-safe_past h s = record { fit = s.fit; forth = λ e. let f = s.forth e in omega arith }
-
-module _ {d : ℕ → Token} {S : List ℕ} {at : ℕ} {O : List ℕ} {used : ℕ} where
-  -- no room
-  pub no_room : {r : Went} {O₁ : List ℕ} {i o : List Token} → r.stopped ≡ true → house.weight < used + length o → Runs d S at O used r O₁ i o
-  no_room z h = record { ends = λ rest x. over z h }
-
-  -- a word is written
-  pub one_word : (w : ℕ) → Fit O used → used < house.weight → Runs d S at O used (record { next = at; used = used + 1; stopped = false }) (set O used w) [] (d w ∷ [])
-  one_word w t h = record { ends = λ rest e. done refl e (rw (add-one, take-suc-set O used w (omega arith), map-append)) }
-
-  -- a word is copied, and the run goes on behind it
-  pub one_copied : {q : Went} {O₂ : List ℕ} {k : Token} {i o : List Token} → Fit O used → used < house.weight → at < length S → (d (get_or S at 0) ≡ k → Runs d S (at + 1) (set O used (get_or S at 0)) (used + 1) q O₂ i o) → Runs d S at O used q O₂ (k ∷ i) (k ∷ o)
-  one_copied {q} {O₂} {k} {i} {o} t u l s = record { ends = λ rest x. go rest x }
+module _ {d : ℕ → Token} {S : List ℕ} {t : Table} {r : Rest} {t₁ : Table} {i o : List Token} where
+  -- a word is read, and the run goes on behind it
+  pub reads : {w : ℕ} {q : List ℕ} {k : Token} → S ≡ w ∷ q → (d w ≡ k → Runs d q t r t₁ i o) → Runs d S t r t₁ (k ∷ i) o
+  reads {w} {q} {k} y s = record { ends = λ rest x. go rest (sym (ap (map d) y) ∙ x) }
     where
-      go : (rest : List Token) → map d (drop at S) ≡ k ∷ (i ++ rest) → End d S O used q O₂ rest (k ∷ o)
-      go rest x =
-          let y : d (get_or S at 0) ∷ map d (drop (suc at) S) ≡ k ∷ (i ++ rest) = sym (ap (map d) (drop-cons S at 0 l)) ∙ x in
-          let w : d (get_or S at 0) ≡ k = cc in
-          elim ((s w).ends rest (rw add-one (cc))) [
-            | done e a b ↦ done e a (b ∙ rw (add-one, take-suc-set O used (get_or S at 0) (omega arith), map-append, append_assoc, w))
-            | over e a ↦ over e (omega arith)
-          ]
+      go : (rest : List Token) → d w ∷ map d q ≡ k ∷ (i ++ rest) → End d t r t₁ rest o
+      go rest x = let e : d w ≡ k = cc in (s e).ends rest (cc)
 
--- a whole table, from its start to the start of another
-module _ {d : ℕ → Token} {S : List ℕ} {O : List ℕ} {r : Went} {O₁ : List ℕ} {i o : List Token} (n : ℕ) (words : map d (take n S) ≡ i) (go : Runs d S 0 O 0 r O₁ i o) where
-  end : End d S O 0 r O₁ (map d (drop n S)) o
-  end = go.ends (map d (drop n S)) (ap (map d) (sym (take-append-drop n S)) ∙ rw (map-append, words))
-
-  pub whole : r.stopped ≡ false → map d (take r.used O₁) ≡ o
-  whole z = elim end [ done e i o ↦ o | over e l ↦ absurd (not_both z e) ]
-
-  pub not_whole : r.stopped ≡ true → house.weight < length o
-  not_whole z = elim end [ done e i o ↦ absurd (not_both e z) | over e l ↦ omega arith ]
-
-  pub fits : Fit O₁ r.used → r.stopped ≡ false → length o ≤ house.weight
-  fits f z = omega (arith, f.room, simp (length-map, length-take) at (ap length (whole z)))
+  -- more tokens than there are words
+  pub nothing_left : length S ≡ 0 → 0 < length i → Runs d S t r t₁ i o
+  nothing_left e l = record { ends = λ rest x. absurd (omega (arith, simp (length-map, length-append) at (ap length x))) }

@@ -11,9 +11,13 @@ use Rattle.definitions.specs.Prenex.{longest}
 use Rattle.text.specs.Words.{Token, var_token, sign, tokens}
 use Rattle.text.specs.Prefixes.{names}
 use Rattle.prenex.specs.Walk.{Side, left_apart, right_apart}
-use Rattle.prenex.specs.Renaming.{both_apart}
-use Rattle.prenex.specs.Writing.{widest_name, End, done, full, long, Appends, written, no_room, BlockEnd}
-use Rattle.prenex.specs.declared.write.Went.{Went}
+use Rattle.prenex.specs.Renaming.{both_apart, topped, node_side}
+use Rattle.std.specs.Prelude.{Result, Ok, Err}
+use Rattle.text.specs.declared.table.Table.{Table}
+use Rattle.prenex.specs.Tables.{Places}
+use Rattle.prenex.specs.Writing.{widest_name, Stops, End, Extends, Written, Appends, BlockEnd}
+use Rattle.prenex.specs.declared.write.Stop.{Stop}
+use Rattle.prenex.specs.declared.write.Stop.TheVariants.{Unfit, Long}
 use Rattle.text.specs.PrefixLaws.{names_append, names_vars}
 use Rattle.prenex.proofs.Grown.{prefix_grows, matrix_grows}
 use Rattle.prenex.proofs.Joins.{walk_prefix_length, walk_matrix_length, longest_left, longest_right}
@@ -36,10 +40,6 @@ module _ (X A B C : List Token) (a b c : ℕ) (e : take c X ≡ (A ++ B) ++ C) (
   pub first_part : take a X ≡ A
   first_part = sym (take-take a c X (omega arith)) ∙ ap (take a) (e ∙ append_assoc A B C) ∙ take_at A (B ++ C) a la
 
--- a side behind a word of the matrix
-abbrev pub topped : Token → Side → Side
-topped t s = record { prefix = s.prefix; matrix = t ∷ s.matrix }
-
 -- a word only adds names
 pub topped_name : (t : Token) (s : Side) → widest_name s ≤ widest_name (topped t s)
 unfolding names longest
@@ -47,21 +47,22 @@ topped_name (var_token x) s = omega arith
 topped_name (sign k n x) s = omega arith
 
 -- one word, and a run behind it
-module _ {T : Bytes} (M : Bytes) (P : List ℕ) {W : List ℕ} {used : ℕ} {W₁ : List ℕ} {h : Went} {t : Token} (p : Appends T W used W₁ h (t ∷ [])) where
-  -- there was no room for the word
-  pub topped_stops : {n : ℕ} (s : Side) → (h.fate ≡ 0 → ⊥) → End T M P n W used M P W₁ h (topped t s)
-  topped_stops {n} s z = elim p [ written e a ↦ absurd (z e) | no_room e l ↦ full e (omega arith) ]
+module _ {T : Bytes} {W W₁ : Table} {t : Token} (lw : length W.nodes ≡ 1024) (u : W.used ≤ 1024) (x : Extends W W₁) (p : Written T W W₁ (t ∷ [])) where
+  pub put_count : W₁.used ≡ W.used + 1
+  put_count = ended (tokens T [] W₁.nodes) (tokens T [] W.nodes) (t ∷ []) W₁.used W.used (simp length-map (omega (arith, x.size, x.room))) (simp length-map (omega arith)) (p.words [])
 
-  pub put_there : h.fate ≡ 0 → take h.matrix (tokens T M W₁) ≡ take used (tokens T M W) ++ (t ∷ [])
-  put_there z = elim p [ written e a ↦ a M | no_room e l ↦ absurd (omega arith) ]
+  pub topped_ends : (M : Bytes) (P : Table) (M' : Bytes) (P' W' : Table) (r : Result Unit Stop) (s : Side) → End T M P W₁ M' P' W' r s → End T M P W M' P' W' r (topped t s)
+  topped_ends M P M' P' W' (Ok u) s e = record {
+    prefix = e.prefix;
+    matrix = e.matrix ∙ ap (λ (l : List Token). l ++ s.matrix) (p.words M) ∙ append_assoc (take W.used (tokens T M W.nodes)) (t ∷ []) s.matrix;
+  }
+  topped_ends M P M' P' W' (Err Unfit) s l = omega (arith, put_count)
+  topped_ends M P M' P' W' (Err Long) s l = omega (arith, topped_name t s)
 
-  pub topped_ends : {n : ℕ} {M' : Bytes} {P' W' : List ℕ} {r : Went} {s : Side} → h.fate ≡ 0 → length W ≡ 1024 → length W₁ ≡ 1024 → used ≤ 1024 → h.matrix ≤ 1024
-      → End T M P n W₁ h.matrix M' P' W' r s → End T M P n W used M' P' W' r (topped t s)
-  topped_ends {n} {M'} {P'} {W'} {r} {s} z lw lw₁ u b (done e a c) =
-      done e a (c ∙ ap (λ (l : List Token). l ++ s.matrix) (put_there z) ∙ append_assoc (take used (tokens T M W)) (t ∷ []) s.matrix)
-  topped_ends {n} {M'} {P'} {W'} {r} {s} z lw lw₁ u b (full e l) =
-      full e (omega (arith, ended (tokens T M W₁) (tokens T M W) (t ∷ []) h.matrix used (simp length-map (omega arith)) (simp length-map (omega arith)) (put_there z)))
-  topped_ends {n} {M'} {P'} {W'} {r} {s} z lw lw₁ u b (long e l) = long e (omega (arith, topped_name t s))
+-- there was no room for the word
+pub topped_stops : (T : Bytes) (W W₁ : Table) (t : Token) (e : Stop) (n : ℕ) (s : Side) → Appends T W W₁ (Err e) (t ∷ []) → Stops (n + W.used) (topped t s) e
+topped_stops T W W₁ t Unfit n s p = omega arith
+topped_stops T W W₁ t Long n s p = absurd p
 
 -- a side behind a block
 abbrev pub behind_block : Token → List Name → Side → Side
@@ -71,7 +72,7 @@ block_names : (k n : ℕ) (x : Name) (vs : List Name) (s : Side) → names (behi
 unfolding names
 block_names k n x vs s = names_append (map var_token vs) s.prefix ∙ ap (λ (l : List Name). l ++ names s.prefix) (names_vars vs)
 
-module _ {T M : Bytes} {P : List ℕ} {n : ℕ} {M₁ : Bytes} {P₁ : List ℕ} {h : Went} {k c : ℕ} {x : Name} {vs : List Name} (b : BlockEnd T M P n M₁ P₁ h (sign k c x) vs) where
+module _ (T M : Bytes) (P : Table) (M₁ : Bytes) (P₁ : Table) (k c : ℕ) (x : Name) (vs : List Name) where
   abbrev blocked : Side → Side
   blocked s = behind_block (sign k c x) vs s
 
@@ -79,40 +80,27 @@ module _ {T M : Bytes} {P : List ℕ} {n : ℕ} {M₁ : Bytes} {P₁ : List ℕ}
   block_size s = simp (length-append, length-map) (omega arith)
 
   -- the block does not fit, or has a name that is too long
-  pub block_stops : {W : List ℕ} {used : ℕ} {W' : List ℕ} (s : Side) → (h.fate ≡ 0 → ⊥) → End T M P n W used M₁ P₁ W' h (blocked s)
-  block_stops {W} {used} {W'} s z = go b
-    where
-      go : BlockEnd T M P n M₁ P₁ h (sign k c x) vs → End T M P n W used M₁ P₁ W' h (blocked s)
-      go (done e a) = absurd (z e)
-      go (full e l) = full e (omega (arith, block_size s))
-      go (long e l) = long e (omega (arith, ap longest (block_names k c x vs s), longest_left vs (names s.prefix)))
-
-  block_there : h.fate ≡ 0 → take h.prefix (tokens T M₁ P₁) ≡ take n (tokens T M P) ++ (sign k c x ∷ map var_token vs)
-  block_there z = go b
-    where
-      go : BlockEnd T M P n M₁ P₁ h (sign k c x) vs → take h.prefix (tokens T M₁ P₁) ≡ take n (tokens T M P) ++ (sign k c x ∷ map var_token vs)
-      go (done e a) = a
-      go (full e l) = absurd (omega arith)
-      go (long e l) = absurd (omega arith)
+  pub block_stops : (n : ℕ) (s : Side) (e : Stop) → BlockEnd T M P M₁ P₁ (Err e) (sign k c x) vs → Stops (P.used + n) (blocked s) e
+  block_stops n s Unfit l = omega (arith, block_size s)
+  block_stops n s Long l = omega (arith, ap longest (block_names k c x vs s), longest_left vs (names s.prefix))
 
   -- a run behind it; the matrix W is what it was
-  pub block_ends : {W : List ℕ} {used : ℕ} {M' : Bytes} {P' W' : List ℕ} {r : Went} {s : Side} → h.fate ≡ 0 → length P ≡ 1024 → length P₁ ≡ 1024 → n ≤ 1024 → h.prefix ≤ 1024
-      → tokens T M₁ W ≡ tokens T M W → End T M₁ P₁ h.prefix W used M' P' W' r s → End T M P n W used M' P' W' r (blocked s)
-  block_ends {W} {used} {M'} {P'} {W'} {r} {s} z lp lp₁ u m w (done e a d) =
-      done e (a ∙ ap (λ (l : List Token). l ++ s.prefix) (block_there z) ∙ append_assoc (take n (tokens T M P)) (sign k c x ∷ map var_token vs) s.prefix) (d ∙ rw w)
-  block_ends {W} {used} {M'} {P'} {W'} {r} {s} z lp lp₁ u m w (full e l) =
-      full e (omega (
+  pub block_ends : Places M P.nodes P.used → Places M₁ P₁.nodes P₁.used → BlockEnd T M P M₁ P₁ (Ok tt) (sign k c x) vs
+      → (W : Table) (M' : Bytes) (P' W' : Table) (r : Result Unit Stop) (s : Side)
+      → tokens T M₁ W.nodes ≡ tokens T M W.nodes → End T M₁ P₁ W M' P' W' r s → End T M P W M' P' W' r (blocked s)
+  block_ends p q b W M' P' W' (Ok u) s w e = record {
+    prefix = e.prefix ∙ ap (λ (l : List Token). l ++ s.prefix) b ∙ append_assoc (take P.used (tokens T M P.nodes)) (sign k c x ∷ map var_token vs) s.prefix;
+    matrix = e.matrix ∙ rw w;
+  }
+  block_ends p q b W M' P' W' (Err Unfit) s w l =
+      omega (
         arith,
         block_size s,
         length-map vs var_token,
-        ended (tokens T M₁ P₁) (tokens T M P) (sign k c x ∷ map var_token vs) h.prefix n (simp length-map (omega arith)) (simp length-map (omega arith)) (block_there z),
-      ))
-  block_ends {W} {used} {M'} {P'} {W'} {r} {s} z lp lp₁ u m w (long e l) =
-      long e (omega (arith, ap longest (block_names k c x vs s), longest_right vs (names s.prefix)))
-
--- what two sides and the node over them come to
-abbrev pub node_side : Token → Side → Side → Side
-node_side t a b = topped t (both_apart a b)
+        ended (tokens T M₁ P₁.nodes) (tokens T M P.nodes) (sign k c x ∷ map var_token vs) P₁.used P.used (simp length-map (omega (arith, q.size, q.used))) (simp length-map (omega (arith, p.size, p.used))) b,
+      )
+  block_ends p q b W M' P' W' (Err Long) s w l =
+      omega (arith, ap longest (block_names k c x vs s), longest_right vs (names s.prefix))
 
 module _ (t : Token) (a b : Side) where
   pub left_name : widest_name a ≤ widest_name (node_side t a b)

@@ -1,6 +1,5 @@
 -- The walk over a side's prefix, one word at a time: what is done stands before `at`, and the walk of what is left gives the rest.
 use mathlib.Core.Path.{◌≡◌, refl, sym, ap, ◌∙◌}
-use mathlib.Core.Bool.{Bool, true, false}
 use mathlib.Core.List.{List, [], ◌∷◌, ◌++◌, append_assoc, append-nil}
 use Prim.Native.Nat.{ℕ, ◌+◌, ◌-◌, ◌≤◌, ◌<◌}
 use native.Mathlib.Omega.{arith}
@@ -11,17 +10,17 @@ use Rattle.definitions.specs.Bytes.{Bytes}
 use Rattle.definitions.specs.Syntax.{Name}
 use Rattle.definitions.specs.Names.{mem}
 use Rattle.definitions.specs.Prenex.{longest}
-use Rattle.definitions.proofs.Laws.Bools.{clash}
 use Rattle.text.specs.Words.{Token, var_token, sign, kind_of_word, spell, token, tokens}
 use Rattle.text.specs.WordLaws.{variable_word, other_word}
 use Rattle.text.specs.Prefixes.{names}
 use Rattle.prenex.specs.Walk.{Side, behind, new_name, renamed, walk}
 use Rattle.prenex.specs.Tables.{Ready}
-use Rattle.prenex.specs.Renaming.{splice, Bounds, over, Spot, Renames, RenamesAt, Walks, apart_side}
+use Rattle.prenex.specs.Renaming.{splice, Bounds, over, Spot, Renames, RenamesAt, Walked, apart_side}
 use Rattle.text.specs.PrefixLaws.{names_append}
 use Rattle.prenex.proofs.Splices.{slice_more, slice_set, slice_end, as_splice, beside_kept, splice_take, splice_drop, splice_slice}
 use Rattle.prenex.proofs.Words.{tokens_at}
 use Rattle.prenex.proofs.Place.{put_length}
+use Rattle.std.specs.Prelude.{Ok}
 
 behind_behind : (a b : List Token) (s : Side) → behind a (behind b s) ≡ behind (a ++ b) s
 behind_behind a b s = ap (λ (l : List Token). record { prefix = l; matrix = s.matrix }) (sym (append_assoc a b s.prefix))
@@ -80,7 +79,7 @@ module _ (T : Bytes) (first : ℕ) {M : Bytes} {P W : List ℕ} {last high from 
 
     -- the bounds stay as they were
     pub still : Bounds M P' W' last high from to other end
-    still = record { ready = g.ready; mine = b.mine; prefix = b.prefix; run = b.run; matrix = b.matrix; others = b.others; beside = b.beside }
+    still = record { ready = g.ready; mine = b.mine; prefix = b.prefix; run = b.run; matrix = b.matrix; others_run = b.others_run; others = b.others; beside = b.beside }
 
     head : slice at last P̂ ≡ token T M (get_or P' at 0) ∷ slice (at + 1) last P̂
     head = rw (add-one at, slice-cons at last P̂ (token T M 0) h (omega (arith, b.mine, b.prefix, sized)), tokens_at T M P' at)
@@ -113,7 +112,7 @@ module _ (T : Bytes) (first : ℕ) {M : Bytes} {P W : List ℕ} {last high from 
     spot v = record { bounds = still; block = g.block; before = h; var = v }
 
     -- a variable, and what `one` says of it
-    module _ (v : kind_of_word (get_or P' at 0) ≡ 12) {P'' W'' : List ℕ} {r : Bool} (o : RenamesAt T M P' high W' low at last high from to other end P'' W'' (spell T M (get_or P' at 0)) r) where
+    module _ (v : kind_of_word (get_or P' at 0) ≡ 12) where
       abbrev x : Name
       x = spell T M (get_or P' at 0)
 
@@ -129,11 +128,11 @@ module _ (T : Bytes) (first : ℕ) {M : Bytes} {P W : List ℕ} {last high from 
       abbrev w : Name
       w = new_name Q N S x rest m
 
-      k : Renames T M P' high W' at from to P'' W'' w (renamed Q N x w rest m) r
-      k = rw (
-        beside_kept first last last high (tokens T M P) P̂ (over (omega arith)) g.low_prefix g.high_prefix,
-        beside_kept from to other end (tokens T M W) Ŵ b.beside g.low_matrix g.high_matrix,
-      ) at o
+      kept_prefix : slice last high P̂ ≡ Q
+      kept_prefix = beside_kept first last last high (tokens T M P) P̂ (over (omega arith)) g.low_prefix g.high_prefix
+
+      kept_matrix : slice other end Ŵ ≡ N
+      kept_matrix = beside_kept from to other end (tokens T M W) Ŵ b.beside g.low_matrix g.high_matrix
 
       next : walk Q N S (slice at last P̂) m ≡ behind (var_token w ∷ []) (walk Q N (S ++ (w ∷ [])) rest (renamed Q N x w rest m))
       unfolding walk
@@ -142,17 +141,15 @@ module _ (T : Bytes) (first : ℕ) {M : Bytes} {P W : List ℕ} {last high from 
       whole : apart_side T M P W first last high from to other end ≡ behind (slice first at P̂ ++ (var_token w ∷ [])) (walk Q N (S ++ (w ∷ [])) rest (renamed Q N x w rest m))
       whole = g.goes ∙ ap (behind (slice first at P̂)) next ∙ behind_behind (slice first at P̂) (var_token w ∷ []) _
 
-      pub goes_stop : r ≡ true → Walks T M P high W first last from to P'' W'' (apart_side T M P W first last high from to other end) true
-      goes_stop z = record {
-        ready = k.ready;
-        in_prefix = λ e. clash refl e;
-        in_matrix = λ e. clash refl e;
-        long = λ e. rw whole (omega (arith, k.long z, longest_mid (slice first at P̂) w (walk Q N (S ++ (w ∷ [])) rest (renamed Q N x w rest m)).prefix));
-      }
+      pub goes_stop : 24 < length (new_name (slice last high P̂) (slice other end Ŵ) S x rest m) → 24 < longest (names (apart_side T M P W first last high from to other end).prefix)
+      goes_stop o = rw whole (omega (arith, moved, longest_mid (slice first at P̂) w (walk Q N (S ++ (w ∷ [])) rest (renamed Q N x w rest m)).prefix))
+        where
+          moved : 24 < length w
+          moved = rw (kept_prefix, kept_matrix) at o
 
-      pub goes_var : r ≡ false → Goes T M P W first last high from to other end P'' W'' low (at + 1)
+      pub goes_var : {P'' W'' : List ℕ} → RenamesAt T M P' high W' low at last high from to other end P'' W'' x (Ok tt) → Goes T M P W first last high from to other end P'' W'' low (at + 1)
       unfolding names
-      goes_var z = record {
+      goes_var {P''} {W''} o = record {
         ready = k.ready;
         lower = g.lower;
         block = omega (arith, g.block);
@@ -164,11 +161,14 @@ module _ (T : Bytes) (first : ℕ) {M : Bytes} {P W : List ℕ} {last high from 
         goes = whole ∙ rw (run first (omega (arith, g.lower, g.block)), run low g.block, left, names_append, mine);
       }
         where
+          k : Renames T M P' high W' at from to P'' W'' w (renamed Q N x w rest m)
+          k = rw (kept_prefix, kept_matrix) at o
+
           here : tokens T M P'' ≡ set P̂ at (var_token w)
-          here = k.here z
+          here = k.here
 
           there : tokens T M W'' ≡ splice from to Ŵ (renamed Q N x w rest m)
-          there = k.there z
+          there = k.there
 
           fits : to ≤ length Ŵ
           fits = simp length-map (omega (arith, g.ready.matrix_size, b.matrix))
@@ -190,12 +190,11 @@ module _ (T : Bytes) (first : ℕ) {M : Bytes} {P W : List ℕ} {last high from 
   all_read a S rest m e = rw (e, append-nil)
 
   pub goes_end : {P' W' : List ℕ} {low at : ℕ} → Goes T M P W first last high from to other end P' W' low at → first ≤ last → last ≤ at
-      → Walks T M P high W first last from to P' W' (apart_side T M P W first last high from to other end) false
+      → Walked T M P high W first last from to P' W' (apart_side T M P W first last high from to other end)
   goes_end {P'} {W'} {low} {at} g f h = record {
     ready = g.ready;
-    in_prefix = λ z. as_splice first last (tokens T M P) (tokens T M P') f g.low_prefix g.high_prefix ∙ rw ended;
-    in_matrix = λ z. as_splice from to (tokens T M W) (tokens T M W') b.run g.low_matrix g.high_matrix ∙ rw ended;
-    long = λ z. clash z refl;
+    in_prefix = as_splice first last (tokens T M P) (tokens T M P') f g.low_prefix g.high_prefix ∙ rw ended;
+    in_matrix = as_splice from to (tokens T M W) (tokens T M W') b.run g.low_matrix g.high_matrix ∙ rw ended;
   }
     where
       there : at ≡ last

@@ -13,7 +13,7 @@ use Rattle.definitions.specs.Syntax.{Name}
 use Rattle.definitions.specs.Names.{mem}
 use Rattle.definitions.specs.Prenex.{ticked, fresh}
 use Rattle.text.specs.Words.{kind_of_word, is_made, size_of, start_of, spell}
-use Rattle.prenex.specs.Tables.{slot_word, Slot}
+use Rattle.prenex.specs.Tables.{slot_word}
 use Rattle.prenex.specs.Renaming.{Named}
 use Rattle.prenex.proofs.Fresh.{fresh_on, fresh_stop, fresh_longer}
 
@@ -41,15 +41,6 @@ pub record Grows (T M : Bytes) (at : ℕ) (U : List Name) (x : Name) (w : ℕ) :
   pub most : size ≤ 25
   pub ticks : (j : ℕ) → size ≤ j → j < 25 → get_or M (25 * at + j) 0 ≡ 96
   pub name : fresh U x ≡ fresh U (take size (drop (25 * at) M))
-
-pub grows_start : (T M : Bytes) (at : ℕ) (U : List Name) (w : ℕ) → at < 1024 → Slot M at w → Grows T M at U (spell T M w) w
-grows_start T M at U w h s = record {
-  size = s.size;
-  word = s.word;
-  most = omega (arith, s.short);
-  ticks = s.ticks;
-  name = ap (fresh U) (ap (spell T M) s.word ∙ slot_spell at s.size h (omega (arith, s.short)) T M);
-}
 
 module _ {T M : Bytes} {at : ℕ} {U : List Name} {x : Name} {w : ℕ} (g : Grows T M at U x w) (h : at < 1024) (room : 25600 ≤ length M) where
   spelled : spell T M w ≡ take g.size (drop (25 * at) M)

@@ -1,21 +1,21 @@
 -- Two walks, one after the other: the left side apart from the right, then the right side apart from the left matrix.
 use mathlib.Core.Path.{◌≡◌, refl, ap, ◌∙◌}
-use mathlib.Core.Bool.{Bool, true, false}
 use mathlib.Core.List.{List, [], ◌∷◌, ◌++◌, append_assoc}
-use Prim.Native.Nat.{ℕ, suc, ◌-◌, ◌≤◌}
+use Prim.Native.Nat.{ℕ, suc, ◌-◌, ◌≤◌, ◌<◌}
 use native.Mathlib.Omega.{arith}
 use lib.ListN.{length, take, drop, length-map}
 use lib.Seq.{slice, slice_empty, length-slice}
+use Rattle.std.specs.Prelude.{Result, Ok, Err}
+use Rattle.prenex.specs.declared.write.TooLong.{TooLong}
 use Rattle.definitions.specs.Bytes.{Bytes}
 use Rattle.definitions.specs.Syntax.{Name}
 use Rattle.definitions.specs.Names.{mem}
 use Rattle.definitions.specs.Prenex.{longest}
-use Rattle.definitions.proofs.Laws.Bools.{clash}
 use Rattle.text.specs.Words.{Token, var_token, sign, tokens}
 use Rattle.text.specs.Prefixes.{names}
 use Rattle.prenex.specs.Walk.{Side, new_name, renamed, walk}
 use Rattle.prenex.specs.Tables.{Ready}
-use Rattle.prenex.specs.Renaming.{splice, Bounds, under, over, Walks, apart_side, held, Halves, both_apart}
+use Rattle.prenex.specs.Renaming.{splice, over, Walked, Walks, apart_side, held, Halves, both_apart}
 use Rattle.text.specs.PrefixLaws.{names_append}
 use Rattle.prenex.proofs.Splices.{drop_further, beside_kept, splice_take, splice_drop, splice_front, splice_slice}
 use Rattle.prenex.proofs.Place.{put_length}
@@ -54,12 +54,6 @@ splice_behind f m t X a b h k l e =
     rw (splice_front f m X a h (omega arith) e, drop_further m t (splice f m X a) X k (splice_drop f m X a h (omega arith) e)) (simp append_assoc)
 
 module _ (T : Bytes) {M : Bytes} {P W : List ℕ} {first mid high from turn to : ℕ} (ready : Ready M P high W) (h : Halves first mid high from turn to) where
-  pub left_bounds : Bounds M P W mid high from turn turn to
-  left_bounds = record { ready = ready; mine = h.right; prefix = h.prefix; run = h.one; matrix = omega (arith, h.two, h.matrix); others = h.matrix; beside = over (omega arith) }
-
-  pub right_bounds : {P₁ W₁ : List ℕ} → Ready M P₁ high W₁ → Bounds M P₁ W₁ high high turn to from turn
-  right_bounds r = record { ready = r; mine = omega arith; prefix = h.prefix; run = h.two; matrix = h.matrix; others = omega (arith, h.two, h.matrix); beside = under (omega arith) }
-
   abbrev P̂ : List Token
   P̂ = tokens T M P
 
@@ -72,16 +66,10 @@ module _ (T : Bytes) {M : Bytes} {P W : List ℕ} {first mid high from turn to :
   abbrev b : Side
   b = walk [] a.matrix [] (slice mid high P̂) (slice turn to Ŵ)
 
-  pub left_stops : {P₁ W₁ : List ℕ} {r : Bool} → Walks T M P high W first mid from turn P₁ W₁ a r → r ≡ true
-      → Walks T M P high W first high from to P₁ W₁ (both_apart (held T M P W first mid from turn) (held T M P W mid high turn to)) true
-  left_stops k z = record {
-    ready = k.ready;
-    in_prefix = λ e. clash refl e;
-    in_matrix = λ e. clash refl e;
-    long = λ e. rw (names_append a.prefix b.prefix) (omega (arith, k.long z, longest_left (names a.prefix) (names b.prefix)));
-  }
+  pub left_stops : 24 < longest (names a.prefix) → 24 < longest (names (both_apart (held T M P W first mid from turn) (held T M P W mid high turn to)).prefix)
+  left_stops k = rw (names_append a.prefix b.prefix) (omega (arith, longest_left (names a.prefix) (names b.prefix)))
 
-  module _ {P₁ W₁ : List ℕ} {q : Bool} (k : Walks T M P high W first mid from turn P₁ W₁ a q) (z : q ≡ false) where
+  module _ {P₁ W₁ : List ℕ} (k : Walked T M P high W first mid from turn P₁ W₁ a) where
     PLong : length P̂ ≡ 1024
     PLong = simp length-map ready.places.size
 
@@ -95,10 +83,10 @@ module _ (T : Bytes) {M : Bytes} {P W : List ℕ} {first mid high from turn to :
     a_matrix = walk_matrix_length (slice mid high P̂) (slice turn to Ŵ) [] (slice first mid P̂) (slice from turn Ŵ) ∙ length-slice from turn Ŵ (omega (arith, WLong, h.two, h.matrix))
 
     prefixes : tokens T M P₁ ≡ splice first mid P̂ a.prefix
-    prefixes = k.in_prefix z
+    prefixes = k.in_prefix
 
     matrices : tokens T M W₁ ≡ splice from turn Ŵ a.matrix
-    matrices = k.in_matrix z
+    matrices = k.in_matrix
 
     second : apart_side T M P₁ W₁ mid high high turn to from turn ≡ b
     second = rw (slice_empty high (tokens T M P₁), left, mine, other)
@@ -116,16 +104,17 @@ module _ (T : Bytes) {M : Bytes} {P W : List ℕ} {first mid high from turn to :
             (ap (take from) matrices ∙ splice_take from turn Ŵ a.matrix h.one (omega (arith, WLong, h.two, h.matrix)) a_matrix)
             (ap (drop turn) matrices ∙ splice_drop from turn Ŵ a.matrix h.one (omega (arith, WLong, h.two, h.matrix)) a_matrix)
 
-    pub both_walked : {P₂ W₂ : List ℕ} {r : Bool} → Walks T M P₁ high W₁ mid high turn to P₂ W₂ (apart_side T M P₁ W₁ mid high high turn to from turn) r
+    pub both_walked : (P₂ W₂ : List ℕ) (r : Result Unit TooLong) → Walks T M P₁ high W₁ mid high turn to P₂ W₂ (apart_side T M P₁ W₁ mid high high turn to from turn) r
         → Walks T M P high W first high from to P₂ W₂ (both_apart (held T M P W first mid from turn) (held T M P W mid high turn to)) r
-    both_walked {P₂} {W₂} {r} j' = record {
-      ready = j.ready;
-      in_prefix = λ e. j.in_prefix e ∙ ap (λ (X : List Token). splice mid high X b.prefix) prefixes
-          ∙ splice_behind first mid high P̂ a.prefix b.prefix h.left h.right (omega (arith, PLong, h.prefix)) a_prefix;
-      in_matrix = λ e. j.in_matrix e ∙ ap (λ (X : List Token). splice turn to X b.matrix) matrices
-          ∙ splice_behind from turn to Ŵ a.matrix b.matrix h.one h.two (omega (arith, WLong, h.matrix)) a_matrix;
-      long = λ e. rw (names_append a.prefix b.prefix) (omega (arith, j.long e, longest_right (names a.prefix) (names b.prefix)));
-    }
-      where
-        j : Walks T M P₁ high W₁ mid high turn to P₂ W₂ b r
-        j = rw second at j'
+    both_walked P₂ W₂ (Ok u) j' =
+        let j : Walked T M P₁ high W₁ mid high turn to P₂ W₂ b = rw second at j' in
+        record {
+          ready = j.ready;
+          in_prefix = j.in_prefix ∙ ap (λ (X : List Token). splice mid high X b.prefix) prefixes
+              ∙ splice_behind first mid high P̂ a.prefix b.prefix h.left h.right (omega (arith, PLong, h.prefix)) a_prefix;
+          in_matrix = j.in_matrix ∙ ap (λ (X : List Token). splice turn to X b.matrix) matrices
+              ∙ splice_behind from turn to Ŵ a.matrix b.matrix h.one h.two (omega (arith, WLong, h.matrix)) a_matrix;
+        }
+    both_walked P₂ W₂ (Err e) j' =
+        let j : 24 < longest (names b.prefix) = rw second at j' in
+        rw (names_append a.prefix b.prefix) (omega (arith, longest_right (names a.prefix) (names b.prefix)))

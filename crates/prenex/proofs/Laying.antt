@@ -1,46 +1,45 @@
 -- A name laid into its slot, and the variable that points there put at its place. What lies before and behind the slot stays.
 use mathlib.Core.Path.{◌≡◌, refl, sym, ap, ap₂, ◌∙◌}
-use mathlib.Core.Bool.{true, false}
 use mathlib.Core.List.{List, [], ◌∷◌, ◌++◌, append_assoc}
-use Prim.Native.Nat.{ℕ, zero, suc, ◌+◌, ◌*◌, ◌-◌, ◌≤◌, ◌<◌}
+use Prim.Native.Nat.{ℕ, ◌+◌, ◌*◌, ◌-◌, ◌≤◌, ◌<◌}
 use native.Mathlib.Omega.{arith}
 use lib.Dec.{eqb}
-use lib.ListN.{length, take, drop, get_or, set, replicate, length-set, length-append, length-replicate, get_or-replicate, get_or-append}
-use lib.Seq.{paste, length-paste, drop-paste, length-take-le, take_at, drop_at, take-take, take-append-le, take-append_seam, get_or-take, get_or-drop, get_or-append-add, get_or-set_same, get_or-set_other}
+use lib.ListN.{length, take, drop, get_or, set, replicate, length-set, length-append, length-replicate, length-take, length-drop, get_or-replicate, get_or-append}
+use lib.Seq.{paste, drop-drop, length-paste, drop-paste, length-take-le, take_at, drop_at, take-take, take-append-le, take-append_seam, get_or-take, get_or-drop, get_or-append-add, get_or-set_same, get_or-set_other}
+use borrow.Rule.Slice.PartMut.{put_mid}
+use Rattle.std.proofs.lemmas.Slice.{take-put_mid, drop-put_mid}
+use Rattle.std.proofs.lemmas.List.Edits.{paste_all}
 use borrow.Author.Tests.{eqb-true, eqb-false}
 use Rattle.definitions.specs.Bytes.{Bytes}
+use Rattle.text.specs.declared.table.Table.{Table}
 use Rattle.definitions.specs.Syntax.{Name}
-use Rattle.definitions.proofs.Laws.Bools.{by_cases, clash}
+use Rattle.definitions.proofs.Laws.Bools.{by_cases}
 use Rattle.text.specs.Words.{Token, var_token, kind_of_word, spell, tokens}
 use Rattle.text.specs.WordLaws.{variable_word}
 use Rattle.prenex.specs.Tables.{slot_word, padded, Slot, Known, AllKnown, Places}
-use Rattle.prenex.specs.Writing.{Between, Lays, text_name}
+use Rattle.prenex.specs.Writing.{Between, Laid, text_name}
 use Rattle.prenex.proofs.Words.{tokens_kept}
 use Rattle.prenex.proofs.Putting.{set_known}
 use Rattle.prenex.proofs.Growing.{slot_kind, slot_length, slot_start, slot_spell}
 use Rattle.prenex.proofs.Appending.{one_written}
 
--- where a list has an element, the default does not matter; behind a name stand backticks
-pub getD_inside : (l : List ℕ) (i a b : ℕ) → i < length l → get_or l i a ≡ get_or l i b
-getD_inside [] i a b h = absurd (omega arith)
-getD_inside (x ∷ l) zero a b h = refl
-getD_inside (x ∷ l) (suc i) a b h = getD_inside l i a b (omega arith)
-
-pub getD_padded : (x : Name) (i : ℕ) → get_or (padded x) i 96 ≡ get_or x i 96
-getD_padded x i = go x (25 - length x) i
-  where
-    ticks : (n i : ℕ) → ◌≡◌ {A = ℕ} (get_or (replicate n 96) i 96) 96
-    ticks zero i = refl
-    ticks (suc n) zero = refl
-    ticks (suc n) (suc i) = ticks n i
-
-    go : (x : Name) (n i : ℕ) → get_or (x ++ replicate n 96) i 96 ≡ get_or x i 96
-    go [] n i = ticks n i
-    go (b ∷ x) n zero = refl
-    go (b ∷ x) n (suc i) = go x n i
-
 pub padded_length : (x : Name) → length x ≤ 24 → length (padded x) ≡ 25
 padded_length x h = simp (length-append, length-replicate) (omega arith)
+
+-- the name x written from `from` on, and backticks behind it
+pub slot_laid : (M : Bytes) (from : ℕ) (x : Name) {y z : Bytes} {n k : ℕ} → from + 25 ≤ length M → length x ≤ 24 → n ≡ length x → k ≡ 25 - length x
+    → y ≡ x → z ≡ replicate (length (take k (drop (from + length x) (put_mid from n M y)))) 96
+    → put_mid (from + length x) k (put_mid from n M y) z ≡ paste M from (padded x) 25
+slot_laid M from x {y} {z} {n} {k} room short b c a e =
+    let m : length (take k (drop (from + length x) (put_mid from n M x))) ≡ 25 - length x = simp (length-take, length-drop, length-append) (omega arith) in
+    let t : z ≡ replicate (25 - length x) 96 = rw a at e ∙ ap (λ (j : ℕ). replicate j 96) m in
+    let q : from + length x + k ≡ from + 25 = omega arith in
+    rw (a, t)
+    (ap₂ (λ (p q : Bytes). p ++ (replicate (25 - length x) 96 ++ q)) (take-put_mid from n M x (from + length x) refl (omega arith))
+    (drop-drop k (from + length x) (put_mid from n M x) ∙ drop-put_mid from n M x (from + length x + k) (omega arith) (omega arith) (sym b) ∙ ap (λ (j : ℕ). drop j M) q)
+    ∙ append_assoc (take from M) x (replicate (25 - length x) 96 ++ drop (from + 25) M)
+    ∙ ap (λ (l : Bytes). take from M ++ l) (sym (append_assoc x (replicate (25 - length x) 96) (drop (from + 25) M)))
+    ∙ sym (paste_all M from (padded x) 25 (sym (padded_length x short))))
 
 pub known_more : {n m : ℕ} (W : List ℕ) → n ≤ m → AllKnown n W → AllKnown m W
 known_more W h a i z = omega (arith, a i z)
@@ -127,28 +126,17 @@ module _ (M : Bytes) (at : ℕ) (x : Name) (room : 25 * at + 25 ≤ length M) (s
         one_written T N P at w (omega (arith, places.size))
         ∙ ap₂ (λ (a : List Token) (t : Token). take at a ++ (t ∷ [])) (tokens_kept T N M (25 * at) laid_before P places.known) (variable_word T N w w_kind ∙ ap var_token (laid_spell T below))
 
--- what `variable` says, where there is room for the name and where there is none
-pub lays : (T M : Bytes) (P : List ℕ) (at v n : ℕ) {N P' : List ℕ} → Places M P at → at < 1024 → n ≡ length (text_name T v) → n < 25
-    → N ≡ paste M (25 * at) (padded (text_name T v)) 25 → P' ≡ set P at (slot_word at n) → Lays T M P at v N P' false
-lays T M P at v n {N} {P'} p h e l a b =
+-- what `variable` says, where there is room for the name
+pub lays : (T M : Bytes) (P : Table) (v n : ℕ) {N : Bytes} {P' : List ℕ} → Places M P.nodes P.used → P.used < 1024 → n ≡ length (text_name T v) → n < 25
+    → N ≡ paste M (25 * P.used) (padded (text_name T v)) 25 → P' ≡ set P.nodes P.used (slot_word P.used n)
+    → Laid T M P v N (record { nodes = P'; used = P.used + 1 })
+lays T M P v n {N} {P'} p h e l a b =
     let x = text_name T v in
-    let room : 25 * at + 25 ≤ length M = omega (arith, p.room) in
-    let c : P' ≡ set P at (slot_word at (length x)) = b ∙ ap (λ (k : ℕ). set P at (slot_word at k)) e in
+    let room : 25 * P.used + 25 ≤ length M = omega (arith, p.room) in
+    let c : P' ≡ set P.nodes P.used (slot_word P.used (length x)) = b ∙ ap (λ (k : ℕ). set P.nodes P.used (slot_word P.used k)) e in
     rw (a, c) (record {
-      places = λ z. laid_places M at x room (omega arith) T p h;
-      between = λ z. laid_between M at x room (omega arith) T p h;
-      named = λ z. laid_named M at x room (omega arith) T p h;
-      same_made = λ z. clash z refl;
-      same_prefix = λ z. clash z refl;
-      long = λ z. clash z refl;
+      used = refl;
+      places = laid_places M P.used x room (omega arith) T p h;
+      between = laid_between M P.used x room (omega arith) T p h;
+      named = laid_named M P.used x room (omega arith) T p h;
     })
-
-pub lays_none : (T M : Bytes) (P : List ℕ) (at v : ℕ) → 24 < length (text_name T v) → Lays T M P at v M P true
-lays_none T M P at v h = record {
-  places = λ z. clash refl z;
-  between = λ z. clash refl z;
-  named = λ z. clash refl z;
-  same_made = λ z. refl;
-  same_prefix = λ z. refl;
-  long = λ z. h;
-}

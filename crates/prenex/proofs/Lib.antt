@@ -9,6 +9,7 @@ pub mod Growing
 pub mod Place
 pub mod Goes
 pub mod Joins
+pub mod Arms
 pub mod TermEnds
 pub mod Weighing
 pub mod Appending
@@ -19,7 +20,6 @@ pub mod Composing
 pub mod Nodes
 pub mod Walking
 pub mod Sides
-pub mod Heads
 pub mod Sizes
 pub mod Lengths
 pub mod Whole

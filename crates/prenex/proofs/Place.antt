@@ -7,13 +7,13 @@ use native.Mathlib.Omega.{arith}
 use native.Mathlib.Numerals.{add-one}
 use borrow.Author.Tests.{eqb-true, eqb-false}
 use lib.Dec.{eqb}
-use lib.ListN.{length, get_or, set, length-set, length-map}
+use lib.ListN.{length, take, drop, get_or, set, length-set, length-map}
 use lib.Seq.{slice, slice-cons, length-slice, set-get_or, get_or-set_same, get_or-set_other}
 use Rattle.definitions.specs.Bytes.{Bytes, same}
 use Rattle.definitions.specs.Syntax.{Name}
 use Rattle.definitions.specs.Names.{mem}
 use Rattle.definitions.specs.Prenex.{fresh}
-use Rattle.definitions.proofs.Laws.Bools.{by_cases, clash}
+use Rattle.definitions.proofs.Laws.Bools.{by_cases}
 use Rattle.definitions.proofs.Laws.Sets.{same_eq}
 use Rattle.text.specs.Words.{Token, var_token, sign, kind_of_word, size_of, start_of, spell, token, tokens}
 use Rattle.text.specs.WordLaws.{variable_word}
@@ -23,8 +23,10 @@ use Rattle.prenex.specs.Tables.{Slot, Slots, Known, AllKnown, Ready}
 use Rattle.prenex.specs.Renaming.{splice, all_names, Named, Bounds, Spot, RenamesAt}
 use Rattle.text.specs.PrefixLaws.{names_append}
 use Rattle.prenex.proofs.Splices.{slice_append, three_parts, splice_length}
-use Rattle.prenex.proofs.Words.{tokens_at, tokens_set}
-use Rattle.prenex.proofs.Putting.{set_known}
+use Rattle.std.specs.Prelude.{Ok}
+use borrow.Rule.Slice.PartMut.{put_mid}
+use Rattle.prenex.proofs.Words.{tokens_at, tokens_set, tokens_run, seen}
+use Rattle.prenex.proofs.Putting.{set_known, part_tokens}
 use Rattle.prenex.proofs.Growing.{slot_kind, slot_length, slot_start}
 
 put_same : (x : Name) (m : List Token) → map (put x x) m ≡ m
@@ -108,16 +110,32 @@ module _ (T : Bytes) {M : Bytes} {P W : List ℕ} {low at last high from to othe
   pub free_there : {r s : Bool} → r ≡ mem x (names N) → r ≡ true → s ≡ mem x (names Q) → s ≡ false → is_free Q N x ≡ true
   free_there e t f u = rw (sym e ∙ t, sym f ∙ u)
 
+  -- what is asked of the slices, and of the slot
+  pub asked_matrix : {r : Bool} → r ≡ mem x (names (tokens T M (take (end - other) (drop other W)))) → r ≡ mem x (names N)
+  asked_matrix e = seen T M (get_or P at 0) W other end e
+
+  pub asked_prefix : {r : Bool} → r ≡ mem x (names (tokens T M (take (high - last) (drop last P)))) → r ≡ mem x (names Q)
+  asked_prefix e = seen T M (get_or P at 0) P last high e
+
+  -- its new name, and what it comes to in the matrix
+  pub named_there : {r : ℕ} → Named T M at (fresh (all_names (tokens T M (take (high - low) (drop low P))) (tokens T M (take (to - from) (drop from W))) (tokens T M (take (end - other) (drop other W)))) x) r
+      → Named T M at (fresh U x) r
+  named_there n = rw (tokens_run T M P low high, tokens_run T M W from to, tokens_run T M W other end) at n
+
+  pub rebound : (Y : List ℕ) (w : Name)
+      → tokens T M Y ≡ cond (mem x (names (tokens T M (take (last - (at + 1)) (drop (at + 1) P))))) (tokens T M (take (to - from) (drop from W))) (map (put x w) (tokens T M (take (to - from) (drop from W))))
+      → tokens T M (put_mid from (to - from) W Y) ≡ splice from to Ŵ (cond (mem x (names rest)) m (map (put x w) m))
+  rebound Y w e = part_tokens T M W Y from to b.run ∙ ap (splice from to Ŵ) (rw (tokens_run T M P (at + 1) last, tokens_run T M W from to) at e)
+
   pub at_slot : Slot M at (get_or P at 0)
   at_slot = ready.places.slots at (omega (arith, b.mine, spot.before)) spot.var
 
   -- it is not free in the other side
-  pub stays : is_free Q N x ≡ false → RenamesAt T M P high W low at last high from to other end P W x false
+  pub stays : is_free Q N x ≡ false → RenamesAt T M P high W low at last high from to other end P W x (Ok tt)
   stays f = record {
     ready = ready;
-    here = λ z. rw f (sym (set-get_or P̂ at (token T M 0)) ∙ ap (set P̂ at) (tokens_at T M P at ∙ variable_word T M (get_or P at 0) spot.var));
-    there = λ z. rw f (sym (three_parts from to Ŵ b.run) ∙ ap (splice from to Ŵ) as_before);
-    long = λ z. clash z refl;
+    here = rw f (sym (set-get_or P̂ at (token T M 0)) ∙ ap (set P̂ at) (tokens_at T M P at ∙ variable_word T M (get_or P at 0) spot.var));
+    there = rw f (sym (three_parts from to Ŵ b.run) ∙ ap (splice from to Ŵ) as_before);
   }
     where
       as_before : m ≡ cond (mem x (names rest)) m (map (put x x) m)
@@ -134,13 +152,8 @@ module _ (T : Bytes) {M : Bytes} {P W : List ℕ} {low at last high from to othe
     size = ap size_of n.word ∙ slot_length at n.size below n.most
 
     -- it is, and its new name is too long
-    pub fails : 24 < size_of r → RenamesAt T M P high W low at last high from to other end P W x true
-    fails l = record {
-      ready = ready;
-      here = λ z. clash refl z;
-      there = λ z. clash refl z;
-      long = λ z. rw named (n.long (omega (arith, size)));
-    }
+    pub fails : 24 < size_of r → 24 < length (new_name Q N S x rest m)
+    fails l = rw named (n.long (omega (arith, size)))
 
     pub new_kind : kind_of_word r ≡ 12
     new_kind = ap kind_of_word n.word ∙ slot_kind at n.size below n.most
@@ -149,7 +162,7 @@ module _ (T : Bytes) {M : Bytes} {P W : List ℕ} {low at last high from to othe
     pub takes : size_of r ≤ 24 → {W' : List ℕ}
         → tokens T M W' ≡ splice from to Ŵ (cond (mem x (names rest)) m (map (put x (spell T M r)) m))
         → ((k : ℕ) → Known k r → AllKnown k W → AllKnown k W')
-        → RenamesAt T M P high W low at last high from to other end (set P at r) W' x false
+        → RenamesAt T M P high W low at last high from to other end (set P at r) W' x (Ok tt)
     takes l {W'} e k = record {
       ready = record {
         places = record {
@@ -162,9 +175,8 @@ module _ (T : Bytes) {M : Bytes} {P W : List ℕ} {low at last high from to othe
         matrix_size = sym (length-map W' (token T M)) ∙ ap length e ∙ splice_length from to Ŵ (cond (mem x (names rest)) m (map (put x (spell T M r)) m)) b.run (omega (arith, long, b.matrix)) fitted ∙ long;
         matrix_known = k (25 * high) known ready.matrix_known;
       };
-      here = λ z. tokens_set T M P at r ∙ ap (set P̂ at) (variable_word T M r new_kind ∙ ap var_token name);
-      there = λ z. e ∙ ap (λ (y : Name). splice from to Ŵ (cond (mem x (names rest)) m (map (put x y) m))) name;
-      long = λ z. clash z refl;
+      here = tokens_set T M P at r ∙ ap (set P̂ at) (variable_word T M r new_kind ∙ ap var_token name);
+      there = e ∙ ap (λ (y : Name). splice from to Ŵ (cond (mem x (names rest)) m (map (put x y) m))) name;
     }
       where
         long : length Ŵ ≡ 1024

@@ -2,21 +2,23 @@
 use mathlib.Core.Path.{◌≡◌, refl, sym, ap, ap₂, ◌∙◌}
 use mathlib.Core.Bool.{Bool, true, false, cond, ◌||◌}
 use mathlib.Core.List.{List, [], ◌∷◌, ◌++◌}
-use Prim.Native.Nat.{ℕ, zero, suc, ◌+◌, ◌≤◌, ◌<◌}
-use native.Mathlib.Numerals.{add-one}
+use Prim.Native.Nat.{ℕ, zero, suc, ◌+◌, ◌-◌, ◌≤◌}
 use lib.Dec.{eqb}
-use lib.ListN.{length, take, drop, get_or, set, length-map, get_or-map}
-use lib.Seq.{slice, slice-cons, take-take}
+use lib.ListN.{take, drop, get_or, set, get_or-map}
+use lib.Seq.{slice, take-take}
+use Rattle.std.specs.List.{list_any}
+use Rattle.std.proofs.lemmas.Slice.{between_is}
+use Rattle.prenex.specs.Renaming.{is_spelled}
+use Rattle.text.specs.WordLaws.{map_take, map_drop}
 use Rattle.definitions.specs.Bytes.{Bytes, same}
 use Rattle.definitions.specs.Syntax.{Name}
 use Rattle.definitions.specs.Names.{mem}
 use Rattle.definitions.proofs.Laws.Bools.{by_cases}
 use Rattle.definitions.proofs.Laws.Sets.{mem_append}
-use Rattle.text.specs.Words.{Token, var_token, sign, is_made, kind_of_word, count_of, size_of, start_of, spell, token, tokens}
-use Rattle.text.specs.WordLaws.{variable_word, other_word}
+use Rattle.text.specs.Words.{Token, var_token, sign, is_made, kind_of_word, count_of, size_of, start_of, spell, token, tokens, same_variable}
 use Rattle.text.specs.Prefixes.{names}
 use Rattle.prenex.specs.Tables.{Known, AllKnown}
-use Rattle.prenex.proofs.Splices.{slice_none, part}
+use Rattle.prenex.proofs.Splices.{part}
 
 module _ (T M : Bytes) where
   pub tokens_at : (W : List ℕ) (i : ℕ) → get_or (tokens T M W) i (token T M 0) ≡ token T M (get_or W i 0)
@@ -27,31 +29,33 @@ module _ (T M : Bytes) where
   tokens_set (w ∷ W) zero v = refl
   tokens_set (w ∷ W) (suc i) v = ap (token T M w ∷◌) (tokens_set W i v)
 
-  -- the variables of a run, one word at a time
-  module _ (W : List ℕ) (x : Name) (i t : ℕ) (h : i < t) (k : t ≤ length W) where
-    first : slice i t (tokens T M W) ≡ token T M (get_or W i 0) ∷ slice (i + 1) t (tokens T M W)
-    first = rw (add-one, slice-cons i t (tokens T M W) (token T M 0) h (simp length-map k), tokens_at W i)
+  -- a word's test, in words of its parts
+  pub spelled_is : (w v : ℕ) → same_variable (spell T M w) (token T M v) ≡ is_spelled T M w v
+  spelled_is w v = by_cases (eqb (kind_of_word v) 12) (λ t. rw t) (λ f. rw f)
 
-    pub mem_var : kind_of_word (get_or W i 0) ≡ 12
-        → mem x (names (slice i t (tokens T M W))) ≡ (same x (spell T M (get_or W i 0)) || mem x (names (slice (i + 1) t (tokens T M W))))
-    unfolding names mem
-    mem_var e = rw (first, variable_word T M (get_or W i 0) e)
-
-    pub mem_other : (kind_of_word (get_or W i 0) ≡ 12 → ⊥) → mem x (names (slice i t (tokens T M W))) ≡ mem x (names (slice (i + 1) t (tokens T M W)))
-    unfolding names mem
-    mem_other e = rw (first, other_word T M (get_or W i 0) e)
-
-  pub mem_none : (W : List ℕ) (x : Name) (i t : ℕ) → t ≤ i → mem x (names (slice i t (tokens T M W))) ≡ false
+  -- a name stands in a run where a word of it has that name
+  pub some_spelled : (w : ℕ) (W : List ℕ) → list_any (is_spelled T M w) W ≡ mem (spell T M w) (names (tokens T M W))
   unfolding names mem
-  mem_none W x i t h = rw (slice_none i t (tokens T M W) h)
+  some_spelled w [] = refl
+  some_spelled w (v ∷ W) =
+      by_cases (eqb (kind_of_word v) 12)
+      (λ t. rw t (ap (λ (b : Bool). same (spell T M w) (spell T M v) || b) (some_spelled w W)))
+      (λ f. rw f (some_spelled w W))
+
+  -- a run of a table
+  pub tokens_run : (W : List ℕ) (i j : ℕ) → tokens T M (take (j - i) (drop i W)) ≡ slice i j (tokens T M W)
+  tokens_run W i j = ap (tokens T M) (between_is W i j) ∙ map_drop (token T M) i (take j W) ∙ ap (drop i) (map_take (token T M) j W)
+
+  pub seen : (w : ℕ) (W : List ℕ) (i j : ℕ) {r : Bool} → r ≡ mem (spell T M w) (names (tokens T M (take (j - i) (drop i W)))) → r ≡ mem (spell T M w) (names (slice i j (tokens T M W)))
+  seen w W i j e = e ∙ ap (λ (l : List Token). mem (spell T M w) (names l)) (tokens_run W i j)
 
 -- a name in one of three lists, each asked in turn
 module _ (x : Name) (a b d : List Name) where
-  pub within_first : {r : Bool} → r ≡ mem x a → r ≡ true → true ≡ mem x (a ++ (b ++ d))
-  within_first e t = sym (mem_append x a (b ++ d) ∙ rw (sym e ∙ t))
+  pub in_first : {r v : Bool} → r ≡ mem x a → r ≡ true → v ≡ r → v ≡ mem x (a ++ (b ++ d))
+  in_first e t z = z ∙ t ∙ sym (mem_append x a (b ++ d) ∙ rw (sym e ∙ t))
 
-  pub within_second : {r s : Bool} → r ≡ mem x a → r ≡ false → s ≡ mem x b → s ≡ true → true ≡ mem x (a ++ (b ++ d))
-  within_second e f k t = sym (mem_append x a (b ++ d) ∙ rw (sym e ∙ f) (mem_append x b d ∙ rw (sym k ∙ t)))
+  pub in_second : {r s v : Bool} → r ≡ mem x a → r ≡ false → s ≡ mem x b → v ≡ s → v ≡ true → v ≡ mem x (a ++ (b ++ d))
+  in_second e f k z t = t ∙ sym (mem_append x a (b ++ d) ∙ rw (sym e ∙ f) (mem_append x b d ∙ rw (sym k ∙ sym z ∙ t)))
 
   pub in_third : {r s t : Bool} → r ≡ mem x a → r ≡ false → s ≡ mem x b → s ≡ false → t ≡ mem x d → t ≡ mem x (a ++ (b ++ d))
   in_third e f k g l = l ∙ sym (mem_append x a (b ++ d) ∙ rw (sym e ∙ f) (mem_append x b d ∙ rw (sym k ∙ g)))

@@ -1,38 +1,48 @@
 -- What the walk over a rule does. It reads a formula from the source, and writes its prenex form behind the two tables: its prefix, flipped
 -- where the sign says so, and its matrix.
-use Rattle.std.specs.Prelude.{Bool, false, List, [], ◌≡◌, ℕ, ◌≤◌, length}
+use Rattle.std.specs.Prelude.{Bool, false, not, List, [], ◌≡◌, ℕ, ◌+◌, ◌≤◌, ◌<◌, ◌++◌, length, drop, Result, MatchResult}
 use Rattle.definitions.specs.Bytes.{Bytes}
 use Rattle.definitions.specs.Limits.{house}
-use Rattle.definitions.specs.Syntax.{Op, imp, and, Quant, Formula}
-use Rattle.definitions.specs.Prenex.{Prenex, merge, outward}
-use Rattle.text.specs.Words.{Token, sign, block_kind, token, code, kind_of_word, is_made}
-use Rattle.prenex.specs.Walk.{turning, coded}
+use Rattle.definitions.specs.Syntax.{Quant, Formula, weight}
+use Rattle.definitions.specs.Prenex.{outward}
+use Rattle.text.specs.Words.{Token, sign, block_kind, token, tokens, code, kind_of_word, is_made}
+use Rattle.prenex.specs.Walk.{Side, turning, coded}
 use Rattle.prenex.specs.Tables.{Ready}
-use Rattle.prenex.specs.Writing.{Plain, Reads, End, Safe}
-use Rattle.prenex.specs.declared.write.Went.{Went}
+use Rattle.prenex.specs.Writing.{Plain, Reads, End, Keeps}
+use Rattle.prenex.specs.Renaming.{node_side}
+use Rattle.prenex.specs.declared.write.Stop.{Stop}
+use Rattle.prenex.specs.declared.write.Stop.TheVariants.{Unfit}
+use Rattle.text.specs.declared.table.Table.{Table}
 
--- what a run asks for: tables with room for what they hold, and a source of full size
-pub record Begins (M : Bytes) (P : List ℕ) (n : ℕ) (W : List ℕ) (used : ℕ) (S : List ℕ) : Type 0 where
-  pub ready : Ready M P n W
-  pub room : used ≤ house.weight
-  pub source : length S ≡ house.weight
+-- what a run asks for: tables with room for what they hold
+pub record Begins (M : Bytes) (P W : Table) : Type 0 where
+  pub ready : Ready M P.nodes P.used W.nodes
+  pub room : W.used ≤ house.weight
 
 -- the formula at `at`
-pub record Runs (T M : Bytes) (P : List ℕ) (n : ℕ) (W : List ℕ) (used : ℕ) (S : List ℕ) (at : ℕ) (flip : Bool) (M' : Bytes) (P' W' : List ℕ) (r : Went) : Type 0 where
-  pub safe : Safe M n used M' P' W' r
-  pub does : (end : ℕ) (f : Formula) (rest : List Token) → Plain S end → Reads T S end at (code f) rest → End T M P n W used M' P' W' r (coded flip (outward f))
+pub record Runs (T M : Bytes) (P W : Table) (S : List ℕ) (at : ℕ) (flip : Bool) (M' : Bytes) (P' W' : Table) (r : Result Unit Stop) : Type 0 where
+  pub safe : Keeps M P W M' P' W' r
+  pub does : (f : Formula) (rest : List Token) → Plain S → Reads T S at (code f) rest → End T M P W M' P' W' r (coded flip (outward f))
 
--- the two formulae at `left` and `right` give `form` of them
-pub record RunsBoth (T M : Bytes) (P : List ℕ) (n : ℕ) (W : List ℕ) (used : ℕ) (S : List ℕ) (left right : ℕ) (flip : Bool) (M' : Bytes) (P' W' : List ℕ) (r : Went) (form : Formula → Formula → Prenex) : Type 0 where
-  pub does : (end : ℕ) (a b : Formula) (rest rest' : List Token) → Plain S end → Reads T S end left (code a) rest → Reads T S end right (code b) rest'
-      → End T M P n W used M' P' W' r (coded flip (form a b))
+-- the two formulae at `left` and `right` give the side that is told of them
+pub record RunsBoth (T M : Bytes) (P W : Table) (S : List ℕ) (left right : ℕ) (M' : Bytes) (P' W' : Table) (r : Result Unit Stop)
+    (side : Formula → Formula → Side) : Type 0 where
+  pub safe : Keeps M P W M' P' W' r
+  pub does : (a b : Formula) (rest rest' : List Token) → Plain S → Reads T S left (code a) rest → Reads T S right (code b) rest'
+      → End T M P W M' P' W' r (side a b)
 
--- the node o over them, and the iff over them, written out
-abbrev pub over : Op → Formula → Formula → Prenex
-over o a b = merge o (outward a) (outward b)
+-- the node with the word `head` over them, and the iff over them, written out
+abbrev pub pair_side : Bytes → ℕ → Bool → Bool → Formula → Formula → Side
+pair_side T head turn flip a b = node_side (token T [] head) (coded turn (outward a)) (coded flip (outward b))
 
-abbrev pub both_ways : Formula → Formula → Prenex
-both_ways a b = merge and (over imp a b) (over imp b a)
+abbrev pub iff_side : Bytes → Bool → Formula → Formula → Side
+iff_side T flip a b = node_side (token T [] 3) (pair_side T 5 (not flip) flip a b) (pair_side T 5 (not flip) flip b a)
+
+-- where the formula at `at` ends
+pub record Ended (S : List ℕ) (at : ℕ) (r : Result ℕ Stop) : Type 0 where
+  -- whatever the source holds
+  pub near : MatchResult r (λ n. (at < n) × (n ≤ length S)) (λ e. e ≡ Unfit)
+  pub ends : (T M : Bytes) (f : Formula) (rest : List Token) → tokens T M (drop at S) ≡ code f ++ rest → MatchResult r (λ n. n ≡ at + weight f) (λ e. ⊥)
 
 -- the head of a block, flipped where the sign says so
 pub record Turned (word : ℕ) (flip : Bool) (r : ℕ) : Type 0 where

@@ -1,6 +1,6 @@
 -- How much a formula weighs once its blocks are out. An iff, written out as two implications joined by and, has each side twice; nothing
 -- else changes, and names have no part in it.
-use Rattle.std.specs.Prelude.{◌++◌, ◌≡◌, ℕ, ◌+◌, ◌*◌, ◌≤◌, ◌<◌, min, length, drop, List}
+use Rattle.std.specs.Prelude.{◌++◌, ◌≡◌, ℕ, ◌+◌, ◌*◌, ◌≤◌, ◌<◌, min, length, drop, List, Option, MatchOption}
 use Rattle.definitions.specs.Bytes.{Bytes}
 use Rattle.definitions.specs.Limits.{house}
 use Rattle.definitions.specs.Syntax.{Terms, count, term_weight, terms_weight, and, or, imp, iff, Formula, top, bot, pred, eq, neg, bin, blk, weight}
@@ -23,20 +23,22 @@ outward_weight (blk q vs f) = 1 + length vs + outward_weight f
 abbrev pub clamped : ℕ → ℕ
 clamped n = min (1 + house.weight) n
 
--- past every place of a table: where there is no formula
-abbrev pub nowhere : ℕ
-nowhere = 2000
+-- `due` terms from `at` on end there, if all of them stand in the source
+pub record Ends (S : List ℕ) (at due : ℕ) (r : Option ℕ) : Type 0 where
+  -- whatever the source holds
+  pub near : MatchOption r Unit (λ n. (at ≤ n) × (n ≤ length S))
+  pub ends : (T M : Bytes) (ts : Terms) (rest : List Token) → count ts ≡ due → tokens T M (drop at S) ≡ terms_code ts ++ rest
+      → MatchOption r ⊥ (λ n. n ≡ at + terms_weight ts)
 
--- `due` terms from `at` on end at r
-pub record Ends (S : List ℕ) (at due r : ℕ) : Type 0 where
-  pub ends : (T M : Bytes) (ts : Terms) (rest : List Token) → count ts ≡ due → tokens T M (drop at S) ≡ terms_code ts ++ rest → r ≡ at + terms_weight ts
+-- an atom with `due` terms behind its word
+pub record Atom (S : List ℕ) (at due : ℕ) (r : Option Weighed) : Type 0 where
+  pub near : MatchOption r Unit (λ w. (at < w.next) × (w.next ≤ length S) × (w.weight ≤ house.weight))
+  pub ends : (T M : Bytes) (ts : Terms) (rest : List Token) → count ts ≡ due → tokens T M (drop (at + 1) S) ≡ terms_code ts ++ rest
+      → MatchOption r ⊥ (λ w. (w.next ≡ at + 1 + terms_weight ts) × (w.weight ≡ 1 + terms_weight ts))
 
 -- a formula from `at` on: where it ends, and what it weighs once its blocks are out
-pub record Weighs (S : List ℕ) (at : ℕ) (r : Weighed) : Type 0 where
+pub record Weighs (S : List ℕ) (at : ℕ) (r : Option Weighed) : Type 0 where
   -- whatever the source holds
-  pub forth : at < house.weight → at < r.next
-  pub past : house.weight ≤ at → r.next ≡ nowhere
-  pub near : r.next ≤ nowhere
-  pub small : r.weight ≤ 1 + house.weight
-  pub next_is : (T M : Bytes) (f : Formula) (rest : List Token) → tokens T M (drop at S) ≡ code f ++ rest → r.next ≡ at + weight f
-  pub weight_is : (T M : Bytes) (f : Formula) (rest : List Token) → tokens T M (drop at S) ≡ code f ++ rest → r.weight ≡ clamped (outward_weight f)
+  pub near : MatchOption r Unit (λ w. (at < w.next) × (w.next ≤ length S) × (w.weight ≤ 1 + house.weight))
+  pub told : (T M : Bytes) (f : Formula) (rest : List Token) → tokens T M (drop at S) ≡ code f ++ rest
+      → MatchOption r ⊥ (λ w. (w.next ≡ at + weight f) × (w.weight ≡ clamped (outward_weight f)))

@@ -7,23 +7,25 @@ mod rename;
 mod weight;
 mod write;
 
-ghost use Rattle.std.specs.Prelude.{◌≡◌, ltb, length, take, ◌≤◌};
+ghost use Rattle.std.specs.Prelude.{◌≡◌, ltb};
 ghost use Rattle.definitions.specs.Limits.{house};
 ghost use Rattle.definitions.specs.Prenex.{longest};
-ghost use Rattle.text.specs.Words.{tokens};
 ghost use Rattle.text.specs.Prefixes.{names};
-ghost use Rattle.prenex.specs.Stage.{Judges, Prenexes};
+ghost use Rattle.prenex.specs.Renaming.{read};
+ghost use Rattle.prenex.specs.Stage.{fate_of, long_variable, Prenexes};
 
 use crate::outward::outward as walk;
 use crate::weight::weigh;
-use text::names::spelling;
+use crate::write::{NAME, SLOT, Stop};
+use text::kind::Kind;
+use text::names::Spellings;
 use text::table::Table;
+use text::word::has_kind;
 
-// How the stage ends: the form is in the two tables; it weighs over 1,024 (refusal 7); it has a variable over 24 bytes (refusal 6); or
-// what was lent does not do: no room for the made names, or a table that holds no rule.
-#[derive(Drop)]
+// Why there is no prenex form in the tables: it weighs over 1,024 (refusal 7); it has a variable over 24 bytes (refusal 6); or what was lent
+// does not do: no room for the made names, or words that are no rule.
+#[derive(Clone, Copy)]
 pub enum Fate {
-    Made,
     Heavy,
     Long,
     Unfit,
@@ -35,114 +37,82 @@ pub struct Prenexed {
     pub prefix: Table,
     pub matrix: Table,
     pub made: usize,
+}
+
+// No form: why, and how many bytes of the made names were used until then.
+#[derive(Clone, Copy)]
+pub struct Unmade {
+    pub made: usize,
     pub fate: Fate,
 }
 
-// Whether a variable of words[0..used] has a name over 24 bytes.
-fn lengthy<'a>(text: &'a [u8], made: &'a [u8], words: &[u64; Table::WEIGHT], used: usize) -> bool
-    requires { (length words.now ≡ house.weight) × (used ≤ house.weight) }
-    ensures { result ≡ ltb house.name (longest (names (take used (tokens text.now made.now words.now)))) }
-{
-    let mut i = 0;
-    while i < used {
-        let word = words[i];
-        if word % 16 == 12 {
-            let name = spelling(text, made, word);
-            if name.len() > 24 {
-                return true;
-            }
+impl From<Stop> for Fate {
+    ghost from_gives = { λ stop fate. fate ≡ fate_of stop };
+
+    fn from(stop: Stop) -> Fate {
+        match stop {
+            Stop::Unfit => Fate::Unfit,
+            Stop::Long => Fate::Long,
         }
-        i += 1;
     }
-    false
 }
 
-// How a walk over a whole rule ends, once the names that were written are looked at.
-fn judged<'a>(
-    text: &'a [u8],
-    made: &'a [u8],
-    prefix: &[u64; Table::WEIGHT],
-    used: usize,
-    matrix: &[u64; Table::WEIGHT],
-    words: usize,
-    fate: u8,
-) -> Fate
-    requires { (length prefix.now ≡ house.weight) × (used ≤ house.weight) × (length matrix.now ≡ house.weight) × (words ≤ house.weight) }
-    ensures { Judges fate (take used (tokens text.now made.now prefix.now)) (take words (tokens text.now made.now matrix.now)) result }
+// Whether a word is a variable with a name over 24 bytes.
+fn is_long<'a>(spellings: Spellings<'a>, word: u64) -> bool
+    ensures { result ≡ long_variable spellings.entry.text.now spellings.entry.made.now word }
 {
-    if fate == 1 {
-        return Fate::Unfit;
-    }
-    if fate != 0 {
-        return Fate::Long;
-    }
-    if lengthy(text, made, prefix, used) {
-        return Fate::Long;
-    }
-    if lengthy(text, made, matrix, words) {
-        return Fate::Long;
-    }
-    Fate::Made
+    has_kind(word, Kind::Variable) && spellings.of(word).len() > NAME
 }
 
-// The prenex form of the rule in the first of these nodes: its blocks outward, in reading order, and renamed where they have to be.
+// Whether there is such a word among these.
+fn lengthy<'a>(spellings: Spellings<'a>, words: &[u64]) -> bool
+    ensures { result ≡ ltb house.name (longest (names (read spellings.entry words.now))) }
+{
+    words.iter().any(|word| is_long(spellings, *word))
+}
+
+// A refusal before any name is made.
+fn untouched(fate: Fate) -> Unmade
+    ensures { result ≡ record { made = 0; fate = fate } }
+{
+    Unmade { made: 0, fate }
+}
+
+// The prenex form of the rule that these words begin with: its blocks outward, in reading order, and renamed where they have to be.
 // The weight is known first (7), then the names (6). Made names go to `made`, 25 bytes for each word of the prefix.
-pub fn prenex(nodes: &[u64; Table::WEIGHT], text: &[u8], made: &mut [u8]) -> Prenexed
-    ensures { Prenexes text.now made.old nodes.now made.new result }
+pub fn prenex(words: &[u64], text: &[u8], made: &mut [u8]) -> Result<Prenexed, Unmade>
+    ensures { Prenexes text.now made.old words.now made.new result }
 {
+    if words.len() > Table::WEIGHT || made.len() < SLOT * Table::WEIGHT {
+        return Err(untouched(Fate::Unfit));
+    }
+    let Some(rule) = weigh(words, 0) else {
+        return Err(untouched(Fate::Unfit));
+    };
+    if rule.weight > Table::WEIGHT {
+        return Err(untouched(Fate::Heavy));
+    }
     let mut prefix = Table::empty();
     let mut matrix = Table::empty();
-    if !Table::is_whole(nodes) {
-        return Prenexed {
-            prefix: prefix,
-            matrix: matrix,
-            made: 0,
-            fate: Fate::Unfit,
-        };
+    let own = &words[..rule.next];
+    let walked = walk(text, made, own, 0, false, &mut prefix, &mut matrix);
+    let used = SLOT * prefix.used;
+    if let Err(stop) = walked {
+        return Err(Unmade {
+            made: used,
+            fate: Fate::from(stop),
+        });
     }
-    if made.len() < 25 * Table::WEIGHT {
-        return Prenexed {
-            prefix: prefix,
-            matrix: matrix,
-            made: 0,
-            fate: Fate::Unfit,
-        };
+    let spellings = Spellings { text, made };
+    if lengthy(spellings, prefix.words()) || lengthy(spellings, matrix.words()) {
+        return Err(Unmade {
+            made: used,
+            fate: Fate::Long,
+        });
     }
-    let rule = weigh(nodes, 0);
-    if rule.weight > Table::WEIGHT {
-        return Prenexed {
-            prefix: prefix,
-            matrix: matrix,
-            made: 0,
-            fate: Fate::Heavy,
-        };
-    }
-    let went = walk(
-        text,
-        made,
-        nodes,
-        0,
-        false,
-        &mut prefix.nodes,
-        0,
-        &mut matrix.nodes,
-        0,
-    );
-    let fate = judged(
-        text,
-        made,
-        &prefix.nodes,
-        went.prefix,
-        &matrix.nodes,
-        went.matrix,
-        went.fate,
-    );
-    prefix.used = went.prefix;
-    matrix.used = went.matrix;
-    Prenexed {
-        prefix: prefix,
-        matrix: matrix,
-        made: 25 * went.prefix,
-        fate: fate,
-    }
+    Ok(Prenexed {
+        prefix,
+        matrix,
+        made: used,
+    })
 }

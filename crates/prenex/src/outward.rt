@@ -1,260 +1,181 @@
 // The walk over a rule: its blocks go to the prefix and all else to the matrix, in reading order, an iff as two implications. Behind both
 // sides of a binary node stands the renaming. Recursion goes along the rule's depth alone.
-ghost use Rattle.std.specs.Prelude.{◌≡◌, ℕ, ◌≤◌, ◌<◌, length as size, List};
+// The rule text and the made names are lent apart, and not as `Spellings`: these functions write made names.
+ghost use Rattle.std.specs.Prelude.{◌≡◌, ℕ, ◌≤◌, ◌<◌, length, List, OnOk};
 ghost use Rattle.definitions.specs.Bytes.{Bytes};
 ghost use Rattle.definitions.specs.Limits.{house};
-ghost use Rattle.definitions.specs.Syntax.{Op, Formula};
-ghost use Rattle.text.specs.Words.{Token, kind_of_word, op_kind, code};
-ghost use Rattle.prenex.specs.Walk.{left_sign};
-ghost use Rattle.prenex.specs.Writing.{Plain, Reads, Extends, Appends, Safe};
-ghost use Rattle.prenex.specs.Outward.{Begins, Runs, RunsBoth, over, both_ways, Turned};
+ghost use Rattle.definitions.specs.Syntax.{Formula};
+ghost use Rattle.text.specs.Kinds.{number};
+ghost use Rattle.text.specs.Words.{Token, kind_of_word, code};
+ghost use Rattle.prenex.specs.Writing.{Plain, Reads, Extends, Appends};
+ghost use Rattle.prenex.specs.Outward.{Begins, Runs, RunsBoth, pair_side, iff_side, Ended, Turned};
 
-use crate::rename::merge;
-use crate::weight::{count, weigh};
-use crate::write::{Went, block, copy, put};
-use text::kinds::{ALL, AND, BOT, EQ, EX, IFF, IMP, NOT, OR, PRED};
+use crate::rename::{Part, merge};
+use crate::weight::weigh;
+use crate::write::{Stop, block, copy, put};
+use text::kind::Kind;
+use text::names::Spellings;
 use text::table::Table;
+use text::word::{count, has_kind, kind_of};
 
-// The places of two formulae, in the order in which they are written.
-#[derive(Drop)]
-pub struct Way(pub usize, pub usize);
-
-// The head of a block, as the sign has it.
+// The head of a block, as the sign has it: its kind and how many variables it has.
 fn turned(word: u64, flip: bool) -> u64
     requires { (7 < kind_of_word word) × (kind_of_word word ≤ 9) }
     ensures { Turned word flip result }
 {
-    let head = word % 1024;
-    if !flip {
-        return head;
+    let variables = 16 * (count(word) as u64);
+    if has_kind(word, Kind::All) == flip {
+        u64::from(Kind::Exists) + variables
+    } else {
+        u64::from(Kind::All) + variables
     }
-    if head % 16 == ALL {
-        return head + 1;
+}
+
+// Where the formula at src[at] ends.
+fn end_of(src: &[u64], at: usize) -> Result<usize, Stop>
+    requires { length src.now ≤ house.weight }
+    ensures { Ended src.now at result }
+{
+    match weigh(src, at) {
+        Some(whole) => Ok(whole.next),
+        None => Err(Stop::Unfit),
     }
-    head - 1
 }
 
 // The atom at src[at], copied behind the matrix.
-fn atom(
-    src: &[u64; Table::WEIGHT],
-    at: usize,
-    used: usize,
-    matrix: &mut [u64; Table::WEIGHT],
-    length: usize,
-) -> Went
-    requires { (size src.now ≡ house.weight) × (size matrix.old ≡ house.weight) × (length ≤ house.weight) }
-    ensures { Extends used matrix.old length matrix.new result
-        × ((T : Bytes) (end : ℕ) (f : Formula) (rest : List Token) → Plain src.now end → Reads T src.now end at (code f) rest
-        → Appends T matrix.old length matrix.new result (code f)) }
+fn atom(src: &[u64], at: usize, matrix: &mut Table) -> Result<(), Stop>
+    requires { (matrix.old.used ≤ house.weight) × (length src.now ≤ house.weight) }
+    ensures { OnOk result (Extends matrix.old matrix.new)
+        × ((T : Bytes) (f : Formula) (rest : List Token) → Plain src.now → Reads T src.now at (code f) rest
+        → Appends T matrix.old matrix.new result (code f)) }
 {
-    let end = weigh(src, at);
-    copy(src, at, end.next, used, matrix, length)
+    let next = end_of(src, at)?;
+    copy(src, at, next, matrix)
 }
 
-// The formula at src[at] with its blocks out, behind the first `used` words of the prefix and the first `length` of the matrix.
+// The formula at src[at] with its blocks out, behind prefix and matrix.
 #[cycle(four_outward_pair)]
 pub(crate) fn outward(
     text: &[u8],
     made: &mut [u8],
-    src: &[u64; Table::WEIGHT],
+    src: &[u64],
     at: usize,
     flip: bool,
-    prefix: &mut [u64; Table::WEIGHT],
-    used: usize,
-    matrix: &mut [u64; Table::WEIGHT],
-    length: usize,
-) -> Went
-    requires { Begins made.old prefix.old used matrix.old length src.now }
-    ensures { Runs text.now made.old prefix.old used matrix.old length src.now at flip
-        made.new prefix.new matrix.new result }
+    prefix: &mut Table,
+    matrix: &mut Table,
+) -> Result<(), Stop>
+    requires { Begins made.old prefix.old matrix.old × (length src.now ≤ house.weight) }
+    ensures { Runs text.now made.old prefix.old matrix.old src.now at flip made.new prefix.new matrix.new result }
 {
-    if at >= Table::WEIGHT {
-        return Went {
-            prefix: used,
-            matrix: length,
-            fate: 1,
-        };
+    if at >= src.len() {
+        return Err(Stop::Unfit);
     }
     let word = src[at];
-    let kind = word % 16;
-    if kind <= BOT {
-        return atom(src, at, used, matrix, length);
-    }
-    if kind <= NOT {
-        let head = put(NOT, used, matrix, length);
-        if head.fate != 0 {
-            return head;
+    let Some(kind) = kind_of(word) else {
+        return Err(Stop::Unfit);
+    };
+    match kind {
+        Kind::Top | Kind::Bottom | Kind::Equals | Kind::Predicate => atom(src, at, matrix),
+        Kind::Not => {
+            put(u64::from(Kind::Not), matrix)?;
+            outward(text, made, src, at + 1, !flip, prefix, matrix)
         }
-        return outward(
-            text,
-            made,
-            src,
-            at + 1,
-            !flip,
-            prefix,
-            used,
-            matrix,
-            head.matrix,
-        );
-    }
-    if kind <= IFF {
-        let left = at + 1;
-        let right = weigh(src, left);
-        if kind <= AND {
-            return pair(
-                text, made, src, left, right.next, AND, flip, flip, prefix, used, matrix, length,
-            );
+        Kind::And | Kind::Or => {
+            let left = at + 1;
+            let right = end_of(src, left)?;
+            pair(
+                text, made, src, left, right, kind, flip, flip, prefix, matrix,
+            )
         }
-        if kind <= OR {
-            return pair(
-                text, made, src, left, right.next, OR, flip, flip, prefix, used, matrix, length,
-            );
-        }
-        if kind <= IMP {
+        Kind::Implies => {
+            let left = at + 1;
+            let right = end_of(src, left)?;
             let turn = !flip;
-            return pair(
-                text, made, src, left, right.next, IMP, turn, flip, prefix, used, matrix, length,
-            );
+            pair(
+                text, made, src, left, right, kind, turn, flip, prefix, matrix,
+            )
         }
-        return four(
-            text, made, src, left, right.next, flip, prefix, used, matrix, length,
-        );
-    }
-    if kind <= EQ {
-        return atom(src, at, used, matrix, length);
-    }
-    if kind <= EX {
-        let variables = count(word);
-        let head = turned(word, flip);
-        let b = block(
-            text,
-            made,
-            src,
-            at + 1,
-            variables,
-            head,
-            prefix,
-            used,
-            length,
-        );
-        if b.fate != 0 {
-            return b;
+        Kind::Iff => {
+            let left = at + 1;
+            let right = end_of(src, left)?;
+            four(text, made, src, left, right, flip, prefix, matrix)
         }
-        return outward(
-            text,
-            made,
-            src,
-            at + 1 + variables,
-            flip,
-            prefix,
-            b.prefix,
-            matrix,
-            length,
-        );
-    }
-    if kind <= PRED {
-        return atom(src, at, used, matrix, length);
-    }
-    Went {
-        prefix: used,
-        matrix: length,
-        fate: 1,
+        Kind::All | Kind::Exists => {
+            let variables = count(word);
+            let head = turned(word, flip);
+            block(text, made, src, at + 1, variables, head, prefix)?;
+            outward(text, made, src, at + 1 + variables, flip, prefix, matrix)
+        }
+        Kind::Function | Kind::Variable | Kind::Constant => Err(Stop::Unfit),
     }
 }
 
-// A node with the word `head` over the formulae at src[left] and src[right]: both sides, and each renamed apart from the other.
+// A node of the kind `head` over the formulae at src[left] and src[right]: both sides, and each renamed apart from the other.
 #[cycle(four_outward_pair)]
 fn pair(
     text: &[u8],
     made: &mut [u8],
-    src: &[u64; Table::WEIGHT],
+    src: &[u64],
     left: usize,
     right: usize,
-    head: u64,
+    head: Kind,
     turn: bool,
     flip: bool,
-    prefix: &mut [u64; Table::WEIGHT],
-    used: usize,
-    matrix: &mut [u64; Table::WEIGHT],
-    length: usize,
-) -> Went
-    requires { Begins made.old prefix.old used matrix.old length src.now × (head < 16) }
-    ensures { Safe made.old used length made.new prefix.new matrix.new result
-        × ((o : Op) → head ≡ op_kind o → turn ≡ left_sign o flip
-        → RunsBoth text.now made.old prefix.old used matrix.old length src.now left right flip
-        made.new prefix.new matrix.new result (over o)) }
+    prefix: &mut Table,
+    matrix: &mut Table,
+) -> Result<(), Stop>
+    requires { Begins made.old prefix.old matrix.old × (length src.now ≤ house.weight) }
+    ensures { RunsBoth text.now made.old prefix.old matrix.old src.now left right made.new prefix.new matrix.new result
+        (pair_side text.now (number head) turn flip) }
 {
-    let way = Way(left, right);
-    let h = put(head, used, matrix, length);
-    if h.fate != 0 {
-        return h;
-    }
-    let l = outward(text, made, src, way.0, turn, prefix, used, matrix, h.matrix);
-    if l.fate != 0 {
-        return l;
-    }
-    let r = outward(
-        text, made, src, way.1, flip, prefix, l.prefix, matrix, l.matrix,
-    );
-    if r.fate != 0 {
-        return r;
-    }
-    if merge(
-        text, made, prefix, used, l.prefix, r.prefix, matrix, h.matrix, l.matrix, r.matrix,
-    ) {
-        return Went {
-            prefix: r.prefix,
-            matrix: r.matrix,
-            fate: 2,
-        };
-    }
-    r
+    let first = prefix.used;
+    put(u64::from(head), matrix)?;
+    let from = matrix.used;
+    outward(text, made, src, left, turn, prefix, matrix)?;
+    let part = Part {
+        first,
+        last: prefix.used,
+        from,
+        to: matrix.used,
+    };
+    outward(text, made, src, right, flip, prefix, matrix)?;
+    merge(Spellings { text, made }, prefix, matrix, part)?;
+    Ok(())
 }
 
-// An iff over the formulae at src[left] and src[right], written out: left to right, and right to left, joined by and.
+// An iff over the formulae at src[left] and src[right], written out: left to right, and right to left, joined by and. Not one function
+// with `pair` over two closures: each would have to be lent all the buffers, which is no plainer.
 #[cycle(four_outward_pair)]
 fn four(
     text: &[u8],
     made: &mut [u8],
-    src: &[u64; Table::WEIGHT],
+    src: &[u64],
     left: usize,
     right: usize,
     flip: bool,
-    prefix: &mut [u64; Table::WEIGHT],
-    used: usize,
-    matrix: &mut [u64; Table::WEIGHT],
-    length: usize,
-) -> Went
-    requires { Begins made.old prefix.old used matrix.old length src.now }
-    ensures { Safe made.old used length made.new prefix.new matrix.new result
-        × RunsBoth text.now made.old prefix.old used matrix.old length src.now left right flip
-        made.new prefix.new matrix.new result both_ways }
+    prefix: &mut Table,
+    matrix: &mut Table,
+) -> Result<(), Stop>
+    requires { Begins made.old prefix.old matrix.old × (length src.now ≤ house.weight) }
+    ensures { RunsBoth text.now made.old prefix.old matrix.old src.now left right made.new prefix.new matrix.new result
+        (iff_side text.now flip) }
 {
-    let there = Way(left, right);
-    let h = put(AND, used, matrix, length);
-    if h.fate != 0 {
-        return h;
-    }
-    let l = pair(
-        text, made, src, there.0, there.1, IMP, !flip, flip, prefix, used, matrix, h.matrix,
-    );
-    if l.fate != 0 {
-        return l;
-    }
-    let r = pair(
-        text, made, src, there.1, there.0, IMP, !flip, flip, prefix, l.prefix, matrix, l.matrix,
-    );
-    if r.fate != 0 {
-        return r;
-    }
-    if merge(
-        text, made, prefix, used, l.prefix, r.prefix, matrix, h.matrix, l.matrix, r.matrix,
-    ) {
-        return Went {
-            prefix: r.prefix,
-            matrix: r.matrix,
-            fate: 2,
-        };
-    }
-    r
+    let head = Kind::Implies;
+    let first = prefix.used;
+    put(u64::from(Kind::And), matrix)?;
+    let from = matrix.used;
+    pair(
+        text, made, src, left, right, head, !flip, flip, prefix, matrix,
+    )?;
+    let part = Part {
+        first,
+        last: prefix.used,
+        from,
+        to: matrix.used,
+    };
+    pair(
+        text, made, src, right, left, head, !flip, flip, prefix, matrix,
+    )?;
+    merge(Spellings { text, made }, prefix, matrix, part)?;
+    Ok(())
 }

@@ -1,154 +1,105 @@
 // Renaming: at a binary node each block's variable that is free in the other side gets a new name. The tables' words change in place; the
 // made names are only read.
-ghost use Rattle.std.specs.Prelude.{◌≡◌, true, false, cond, map, ℕ, ◌+◌, ◌≤◌, ◌<◌, length, get_or};
-ghost use Rattle.std.proofs.Math.Seq.{slice};
+ghost use Rattle.std.specs.Prelude.{◌≡◌, Bool, cond, map, ℕ, ◌*◌, ◌+◌, ◌≤◌, ◌<◌, length, get_or};
 ghost use Rattle.definitions.specs.Limits.{house};
 ghost use Rattle.definitions.specs.Names.{mem};
 ghost use Rattle.definitions.specs.Prenex.{fresh as fresh_name};
-ghost use Rattle.text.specs.Words.{spell, tokens, kind_of_word};
+ghost use Rattle.text.specs.Words.{kind_of_word};
 ghost use Rattle.text.specs.Prefixes.{names};
 ghost use Rattle.prenex.specs.Walk.{put};
-ghost use Rattle.prenex.specs.Tables.{Slot, Known, AllKnown, Ready};
-ghost use Rattle.prenex.specs.Renaming.{splice, all_names, Named, Bounds, Spot, RenamesAt, Walks, apart_side, held, Halves, both_apart};
+ghost use Rattle.prenex.specs.Tables.{slot_size, Slot, Known, AllKnown, Ready};
+ghost use Rattle.prenex.specs.Renaming.{spelled, read, is_spelled, all_names, Named, Bounds, Spot, RenamesAt, Walks, apart_side, held, Halves, both_apart};
 
-use text::kinds::VAR;
-use text::names::spelled_same;
+use crate::write;
+use crate::write::{TooLong, size};
+use text::kind::Kind;
+use text::names::Spellings;
 use text::table::Table;
+use text::word::has_kind;
 
-// The longest name that a variable may have.
-const NAME: u64 = 24;
+// The longest name that a variable may have, as a word tells it.
+const NAME: u64 = write::NAME as u64;
 
-// Whether a variable of the spelling of `word` stands in words[from..to].
-pub(crate) fn occurs<'a>(
-    text: &'a [u8],
-    made: &'a [u8],
-    words: &[u64; Table::WEIGHT],
-    from: usize,
-    to: usize,
-    word: u64,
-) -> bool
-    requires { (length words.now ≡ house.weight) × (to ≤ house.weight) }
-    ensures { result ≡ mem (spell text.now made.now word) (names (slice from to (tokens text.now made.now words.now))) }
-{
-    let mut i = from;
-    while i < to {
-        let w = words[i];
-        if w % 16 == VAR {
-            if spelled_same(text, made, word, w) {
-                return true;
-            }
-        }
-        i += 1;
-    }
-    false
+// What a side has of the two tables: prefix[first..last] and matrix[from..to].
+#[derive(Clone, Copy)]
+pub struct Part {
+    pub first: usize,
+    pub last: usize,
+    pub from: usize,
+    pub to: usize,
 }
 
-// Whether a variable of the spelling of `word` stands in prefix[low..high], matrix[from..to] or matrix[other..end].
-pub(crate) fn taken<'a>(
-    text: &'a [u8],
-    made: &'a [u8],
-    prefix: &[u64; Table::WEIGHT],
-    low: usize,
-    high: usize,
-    matrix: &[u64; Table::WEIGHT],
-    from: usize,
-    to: usize,
-    other: usize,
-    end: usize,
-    word: u64,
-) -> bool
-    requires { (length prefix.now ≡ house.weight) × (high ≤ house.weight) × (length matrix.now ≡ house.weight) × (to ≤ house.weight) × (end ≤ house.weight) }
-    ensures { result ≡ mem (spell text.now made.now word)
-        (all_names (slice low high (tokens text.now made.now prefix.now)) (slice from to (tokens text.now made.now matrix.now)) (slice other end (tokens text.now made.now matrix.now))) }
+// Whether a variable of the spelling of `word` stands among these words.
+fn occurs<'a>(spellings: Spellings<'a>, words: &[u64], word: u64) -> bool
+    ensures { result ≡ mem (spelled spellings.entry word) (names (read spellings.entry words.now)) }
 {
-    if occurs(text, made, prefix, low, high, word) {
-        return true;
-    }
-    if occurs(text, made, matrix, from, to, word) {
-        return true;
-    }
-    occurs(text, made, matrix, other, end, word)
+    words
+        .iter()
+        .any(|other| spellings.same_variable(word, *other))
 }
 
-// Puts the variable `new` for each variable in words[from..to] that is spelled as `old`.
-pub(crate) fn put_name<'a>(
-    text: &'a [u8],
-    made: &'a [u8],
-    words: &mut [u64; Table::WEIGHT],
-    from: usize,
-    to: usize,
-    old: u64,
-    new: u64,
-)
-    requires { (length words.old ≡ house.weight) × (from ≤ to) × (to ≤ house.weight) × (kind_of_word new ≡ 12) }
-    ensures { (tokens text.now made.now words.new
-        ≡ splice from to (tokens text.now made.now words.old) (map (put (spell text.now made.now old) (spell text.now made.now new)) (slice from to (tokens text.now made.now words.old))))
+// Whether one stands among the words of three runs.
+fn taken<'a>(
+    spellings: Spellings<'a>,
+    bound: &[u64],
+    mine: &[u64],
+    others: &[u64],
+    word: u64,
+) -> bool
+    ensures { result ≡ mem (spelled spellings.entry word)
+        (all_names (read spellings.entry bound.now) (read spellings.entry mine.now) (read spellings.entry others.now)) }
+{
+    occurs(spellings, bound, word)
+        || occurs(spellings, mine, word)
+        || occurs(spellings, others, word)
+}
+
+// Puts the variable `new` for each variable among these words that is spelled as `old`.
+fn put_name<'a>(spellings: Spellings<'a>, words: &mut [u64], old: u64, new: u64)
+    requires { kind_of_word new ≡ 12 }
+    ensures { (read spellings.entry words.new
+        ≡ map (put (spelled spellings.entry old) (spelled spellings.entry new)) (read spellings.entry words.old))
         × ((n : ℕ) → Known n new → AllKnown n words.old → AllKnown n words.new) }
 {
-    let mut i = from;
-    while i < to {
-        let w = words[i];
-        if w % 16 == VAR {
-            if spelled_same(text, made, old, w) {
-                words[i] = new;
-            }
+    for word in words.iter_mut() {
+        if spellings.same_variable(old, *word) {
+            *word = new;
         }
-        i += 1;
     }
 }
 
-// Puts `new` for `old` in matrix[from..to], unless a block of prefix[low..high] binds it.
-pub(crate) fn rebind<'a>(
-    text: &'a [u8],
-    made: &'a [u8],
-    prefix: &[u64; Table::WEIGHT],
-    low: usize,
-    high: usize,
-    matrix: &mut [u64; Table::WEIGHT],
-    from: usize,
-    to: usize,
-    old: u64,
-    new: u64,
-)
-    requires { (length prefix.now ≡ house.weight) × (high ≤ house.weight) × (length matrix.old ≡ house.weight) × (from ≤ to) × (to ≤ house.weight) × (kind_of_word new ≡ 12) }
-    ensures { (tokens text.now made.now matrix.new
-        ≡ splice from to (tokens text.now made.now matrix.old) (cond (mem (spell text.now made.now old) (names (slice low high (tokens text.now made.now prefix.now))))
-        (slice from to (tokens text.now made.now matrix.old))
-        (map (put (spell text.now made.now old) (spell text.now made.now new)) (slice from to (tokens text.now made.now matrix.old)))))
+// Puts `new` for `old` among the words of a matrix, unless one of the blocks `inner` binds it again.
+fn rebind<'a>(spellings: Spellings<'a>, inner: &[u64], matrix: &mut [u64], old: u64, new: u64)
+    requires { kind_of_word new ≡ 12 }
+    ensures { (read spellings.entry matrix.new
+        ≡ cond (mem (spelled spellings.entry old) (names (read spellings.entry inner.now)))
+        (read spellings.entry matrix.old)
+        (map (put (spelled spellings.entry old) (spelled spellings.entry new)) (read spellings.entry matrix.old)))
         × ((n : ℕ) → Known n new → AllKnown n matrix.old → AllKnown n matrix.new) }
 {
-    if occurs(text, made, prefix, low, high, old) {
-        return;
+    if !occurs(spellings, inner, old) {
+        put_name(spellings, matrix, old, new);
     }
-    put_name(text, made, matrix, from, to, old, new);
 }
 
-// A new name for the variable at prefix[at]: as many of its slot's backticks as it takes until it is none of prefix[low..high],
-// matrix[from..to] and matrix[other..end]; all of the slot where that would be over 24 bytes.
-pub(crate) fn fresh<'a>(
-    text: &'a [u8],
-    made: &'a [u8],
-    prefix: &[u64; Table::WEIGHT],
-    low: usize,
-    at: usize,
-    high: usize,
-    matrix: &[u64; Table::WEIGHT],
-    from: usize,
-    to: usize,
-    other: usize,
-    end: usize,
+// A new name for a variable in its slot: as many of the slot's backticks as it takes until it is none of those in three runs; all of the
+// slot where that would be over 24 bytes.
+fn fresh<'a>(
+    spellings: Spellings<'a>,
+    bound: &[u64],
+    mine: &[u64],
+    others: &[u64],
+    word: u64,
 ) -> u64
-    requires high_le_weight { (high ≤ house.weight) × (to ≤ house.weight) × (end ≤ house.weight) × (at < high) }
-    requires ready { Ready made.now prefix.now high matrix.now × Slot made.now at (get_or prefix.now at 0) }
-    ensures { Named text.now made.now at
-        (fresh_name (all_names (slice low high (tokens text.now made.now prefix.now)) (slice from to (tokens text.now made.now matrix.now)) (slice other end (tokens text.now made.now matrix.now)))
-        (spell text.now made.now (get_or prefix.now at 0))) result }
+    ensures { (at : ℕ) → at < house.weight → slot_size * house.weight ≤ length spellings.entry.made.now → Slot spellings.entry.made.now at word
+        → Named spellings.entry.text.now spellings.entry.made.now at
+        (fresh_name (all_names (read spellings.entry bound.now) (read spellings.entry mine.now) (read spellings.entry others.now))
+        (spelled spellings.entry word)) result }
 {
-    let mut new = prefix[at];
-    while new / 2048 % 64 <= NAME {
-        if !taken(
-            text, made, prefix, low, high, matrix, from, to, other, end, new,
-        ) {
+    let mut new = word;
+    // Until a name is free: no range says when.
+    while size(new) <= NAME {
+        if !taken(spellings, bound, mine, others, new) {
             return new;
         }
         new += 2048;
@@ -156,116 +107,105 @@ pub(crate) fn fresh<'a>(
     new
 }
 
-// Renames the variable at prefix[at], of the block that begins at `low`, where it is free in the other side: prefix[last..high] with
-// matrix[other..end]. Answers true, and changes nothing, where its new name would be over 24 bytes.
-pub(crate) fn one<'a>(
-    text: &'a [u8],
-    made: &'a [u8],
-    prefix: &mut [u64; Table::WEIGHT],
+// Renames the variable at prefix[at], of the block that begins at `low`, where it is free in the other side, whose prefix stands behind
+// its own. Changes nothing where its new name would be over 24 bytes.
+fn one<'a>(
+    spellings: Spellings<'a>,
+    prefix: &mut [u64],
     low: usize,
     at: usize,
-    last: usize,
-    high: usize,
-    matrix: &mut [u64; Table::WEIGHT],
-    from: usize,
-    to: usize,
-    other: usize,
-    end: usize,
-) -> bool
-    requires { Spot made.now prefix.old matrix.old low at last high from to other end }
-    ensures { RenamesAt text.now made.now prefix.old high matrix.old low at last high from to other end
-        prefix.new matrix.new (spell text.now made.now (get_or prefix.old at 0)) result }
+    matrix: &mut [u64],
+    mine: Part,
+    other: Part,
+) -> Result<(), TooLong>
+    requires { Spot spellings.made.now prefix.old matrix.old low at mine.last other.last mine.from mine.to other.from other.to }
+    ensures { RenamesAt spellings.entry.text.now spellings.entry.made.now prefix.old other.last matrix.old
+        low at mine.last other.last mine.from mine.to other.from other.to prefix.new matrix.new (spelled spellings.entry (get_or prefix.old at 0)) result }
 {
     let word = prefix[at];
-    if !occurs(text, made, matrix, other, end, word) {
-        return false;
+    let others = &matrix[other.from..other.to];
+    if !occurs(spellings, others, word) {
+        return Ok(());
     }
-    if occurs(text, made, prefix, last, high, word) {
-        return false;
+    if occurs(spellings, &prefix[mine.last..other.last], word) {
+        return Ok(());
     }
     let new = fresh(
-        text, made, prefix, low, at, high, matrix, from, to, other, end,
+        spellings,
+        &prefix[low..other.last],
+        &matrix[mine.from..mine.to],
+        others,
+        word,
     );
-    if new / 2048 % 64 > NAME {
-        return true;
+    if size(new) > NAME {
+        return Err(TooLong);
     }
     rebind(
-        text,
-        made,
-        prefix,
-        at + 1,
-        last,
-        matrix,
-        from,
-        to,
+        spellings,
+        &prefix[at + 1..mine.last],
+        &mut matrix[mine.from..mine.to],
         word,
         new,
     );
     prefix[at] = new;
-    false
+    Ok(())
 }
 
-// Renames the variables of prefix[first..last] that are free in the other side, prefix[last..high] with matrix[other..end], in their
-// blocks and in matrix[from..to]. Answers true where a new name would be over 24 bytes.
-pub(crate) fn side<'a>(
-    text: &'a [u8],
-    made: &'a [u8],
-    prefix: &mut [u64; Table::WEIGHT],
-    first: usize,
-    last: usize,
-    high: usize,
-    matrix: &mut [u64; Table::WEIGHT],
-    from: usize,
-    to: usize,
-    other: usize,
-    end: usize,
-) -> bool
-    requires { Bounds made.now prefix.old matrix.old last high from to other end × (first ≤ last) }
-    ensures { Walks text.now made.now prefix.old high matrix.old first last from to prefix.new matrix.new
-        (apart_side text.now made.now prefix.old matrix.old first last high from to other end) result }
+// Renames a side's variables that are free in the other side, in their blocks and in the side's matrix. The other side's prefix stands
+// behind its own.
+fn side<'a>(
+    spellings: Spellings<'a>,
+    prefix: &mut [u64],
+    matrix: &mut [u64],
+    mine: Part,
+    other: Part,
+) -> Result<(), TooLong>
+    requires { Bounds spellings.made.now prefix.old matrix.old mine.last other.last mine.from mine.to other.from other.to
+        × (mine.first ≤ mine.last) }
+    ensures { Walks spellings.entry.text.now spellings.entry.made.now prefix.old other.last matrix.old
+        mine.first mine.last mine.from mine.to prefix.new matrix.new
+        (apart_side spellings.entry.text.now spellings.entry.made.now prefix.old matrix.old
+        mine.first mine.last other.last mine.from mine.to other.from other.to) result }
 {
-    let mut low = first;
-    let mut at = first;
-    while at < last {
-        if prefix[at] % 16 == VAR {
-            if one(
-                text, made, prefix, low, at, last, high, matrix, from, to, other, end,
-            ) {
-                return true;
-            }
+    let mut low = mine.first;
+    for at in mine.first..mine.last {
+        if has_kind(prefix[at], Kind::Variable) {
+            one(spellings, prefix, low, at, matrix, mine, other)?;
         } else {
             low = at + 1;
         }
-        at += 1;
     }
-    false
+    Ok(())
 }
 
-// Both sides of a binary node renamed apart: prefix[first..mid] with matrix[from..turn] against the other side with its prefix, then
-// prefix[mid..high] with matrix[turn..to] against the left side's matrix. Answers true where a new name would be over 24 bytes.
+// Both sides of a binary node renamed apart: the left against the right with its prefix, then the right against the left side's matrix.
+// The right side is what stands behind the left one in the tables.
 pub(crate) fn merge<'a>(
-    text: &'a [u8],
-    made: &'a [u8],
-    prefix: &mut [u64; Table::WEIGHT],
-    first: usize,
-    mid: usize,
-    high: usize,
-    matrix: &mut [u64; Table::WEIGHT],
-    from: usize,
-    turn: usize,
-    to: usize,
-) -> bool
-    requires { Ready made.now prefix.old high matrix.old × Halves first mid high from turn to }
-    ensures { Walks text.now made.now prefix.old high matrix.old first high from to prefix.new matrix.new
-        (both_apart (held text.now made.now prefix.old matrix.old first mid from turn)
-        (held text.now made.now prefix.old matrix.old mid high turn to)) result }
+    spellings: Spellings<'a>,
+    prefix: &mut Table,
+    matrix: &mut Table,
+    left: Part,
+) -> Result<(), TooLong>
+    requires { Ready spellings.made.now prefix.old.nodes prefix.old.used matrix.old.nodes
+        × Halves left.first left.last prefix.old.used left.from left.to matrix.old.used }
+    ensures { (prefix.new.used ≡ prefix.old.used) × (matrix.new.used ≡ matrix.old.used)
+        × Walks spellings.entry.text.now spellings.entry.made.now prefix.old.nodes prefix.old.used matrix.old.nodes
+        left.first prefix.old.used left.from matrix.old.used prefix.new.nodes matrix.new.nodes
+        (both_apart (held spellings.entry.text.now spellings.entry.made.now prefix.old.nodes matrix.old.nodes left.first left.last left.from left.to)
+        (held spellings.entry.text.now spellings.entry.made.now prefix.old.nodes matrix.old.nodes left.last prefix.old.used left.to matrix.old.used)) result }
 {
-    if side(
-        text, made, prefix, first, mid, high, matrix, from, turn, turn, to,
-    ) {
-        return true;
-    }
-    side(
-        text, made, prefix, mid, high, high, matrix, turn, to, from, turn,
-    )
+    let right = Part {
+        first: left.last,
+        last: prefix.used,
+        from: left.to,
+        to: matrix.used,
+    };
+    side(spellings, &mut prefix.nodes, &mut matrix.nodes, left, right)?;
+    let bare = Part {
+        first: right.last,
+        last: right.last,
+        from: left.from,
+        to: left.to,
+    };
+    side(spellings, &mut prefix.nodes, &mut matrix.nodes, right, bare)
 }

@@ -1,18 +1,14 @@
 // What a rule weighs once its blocks are out, known before any name is made. Each node is visited once.
 ghost use Rattle.std.specs.Prelude.{◌≡◌, ◌+◌, ◌-◌, ◌≤◌, ◌<◌, length};
-ghost use Rattle.definitions.specs.Bytes.{Bytes};
 ghost use Rattle.definitions.specs.Limits.{house};
-ghost use Rattle.text.specs.Words.{token, behind, count_of};
-ghost use Rattle.prenex.specs.Weights.{clamped, nowhere, Ends, Weighs};
+ghost use Rattle.prenex.specs.Weights.{clamped, Ends, Atom, Weighs};
 
-use text::kinds::{BOT, EQ, EX, FUN, IFF, IMP, NOT, PRED};
+use text::kind::Kind;
 use text::table::Table;
-
-// Past every place of a table: where there is no formula.
-const NOWHERE: usize = 2000;
+use text::word::{arguments, count, kind_of};
 
 // Where a formula ends, and what it weighs once its blocks are out, told as 1,025 where that is more.
-#[derive(Drop)]
+#[derive(Clone, Copy)]
 pub struct Weighed {
     pub next: usize,
     pub weight: usize,
@@ -22,116 +18,87 @@ pub struct Weighed {
 fn clamp(n: usize) -> usize
     ensures { result ≡ clamped n }
 {
-    if n > Table::WEIGHT {
-        return Table::WEIGHT + 1;
-    }
-    n
+    n.min(Table::WEIGHT + 1)
 }
 
-// The count of a word: a predicate's or a function's arguments, a block's variables.
-pub(crate) fn count(word: u64) -> usize
-    ensures { (result ≡ count_of word) × (result < 64) }
-{
-    (word / 16 % 64) as usize
-}
-
-// How many terms stand behind a term's word: a function's arguments.
-fn arguments(word: u64) -> usize
-    ensures { ((T M : Bytes) → result ≡ behind (token T M word)) × (result < 64) }
-{
-    if word % 16 == FUN {
-        return count(word);
-    }
-    0
-}
-
-// Where the `due` terms from `at` on end.
-fn terms(src: &[u64; Table::WEIGHT], at: usize, due: usize) -> usize
-    requires { (length src.now ≡ house.weight) × (at ≤ house.weight) × (due < 64) }
-    ensures { (at ≤ result) × (result ≤ nowhere) × Ends src.now at due result }
+// Where the `due` terms from `at` on end; None if the source ends before they do.
+fn terms(src: &[u64], at: usize, due: usize) -> Option<usize>
+    requires { (at ≤ length src.now) × (length src.now ≤ house.weight) × (due < 64) }
+    ensures { Ends src.now at due result }
 {
     let mut next = at;
     let mut left = due;
+    // How many words the terms have shows only as they are read: no range says it.
     while left > 0 {
-        if next >= Table::WEIGHT {
-            return NOWHERE;
+        if next >= src.len() {
+            return None;
         }
-        let word = src[next];
+        left = left - 1 + arguments(src[next]);
         next += 1;
-        left = left - 1 + arguments(word);
     }
-    next
+    Some(next)
 }
 
-// An atom that begins at `at`, with `due` terms behind its word.
-fn atom(src: &[u64; Table::WEIGHT], at: usize, due: usize) -> Weighed
-    requires { (length src.now ≡ house.weight) × (at < house.weight) × (due < 64) }
-    ensures { (at < result.next) × (result.next ≤ nowhere) × Ends src.now (at + 1) due result.next × (result.weight ≡ clamped (result.next - at)) }
+// An atom that begins at `at`, with `due` terms behind its word. It weighs as much as it has words.
+fn atom(src: &[u64], at: usize, due: usize) -> Option<Weighed>
+    requires { (at < length src.now) × (length src.now ≤ house.weight) × (due < 64) }
+    ensures { Atom src.now at due result }
 {
-    let next = terms(src, at + 1, due);
-    Weighed {
-        next: next,
-        weight: clamp(next - at),
-    }
+    let next = terms(src, at + 1, due)?;
+    Some(Weighed {
+        next,
+        weight: next - at,
+    })
 }
 
-// The formula at `at`: where it ends, and what it weighs once its blocks are out.
-pub(crate) fn weigh(src: &[u64; Table::WEIGHT], at: usize) -> Weighed
-    requires { length src.now ≡ house.weight }
+// The formula at `at`: where it ends, and what it weighs once its blocks are out. None if there is no formula.
+pub(crate) fn weigh(src: &[u64], at: usize) -> Option<Weighed>
+    requires { length src.now ≤ house.weight }
     ensures { Weighs src.now at result }
 {
-    if at >= Table::WEIGHT {
-        return Weighed {
-            next: NOWHERE,
-            weight: 0,
-        };
+    if at >= src.len() {
+        return None;
     }
     let word = src[at];
-    let kind = word % 16;
-    if kind <= BOT {
-        return Weighed {
+    match kind_of(word)? {
+        Kind::Top | Kind::Bottom => Some(Weighed {
             next: at + 1,
             weight: 1,
-        };
-    }
-    if kind <= NOT {
-        let part = weigh(src, at + 1);
-        return Weighed {
-            next: part.next,
-            weight: clamp(1 + part.weight),
-        };
-    }
-    if kind <= IFF {
-        let left = weigh(src, at + 1);
-        let right = weigh(src, left.next);
-        let both = left.weight + right.weight;
-        if kind <= IMP {
-            return Weighed {
-                next: right.next,
-                weight: clamp(1 + both),
-            };
+        }),
+        Kind::Not => {
+            let part = weigh(src, at + 1)?;
+            Some(Weighed {
+                next: part.next,
+                weight: clamp(1 + part.weight),
+            })
         }
-        return Weighed {
-            next: right.next,
-            weight: clamp(3 + 2 * both),
-        };
-    }
-    if kind <= EQ {
-        return atom(src, at, 2);
-    }
-    if kind <= EX {
-        let variables = count(word);
-        let part = weigh(src, at + 1 + variables);
-        return Weighed {
-            next: part.next,
-            weight: clamp(1 + variables + part.weight),
-        };
-    }
-    if kind <= PRED {
-        return atom(src, at, count(word));
-    }
-    Weighed {
-        next: NOWHERE,
-        weight: 0,
+        Kind::And | Kind::Or | Kind::Implies => {
+            let left = weigh(src, at + 1)?;
+            let right = weigh(src, left.next)?;
+            Some(Weighed {
+                next: right.next,
+                weight: clamp(1 + left.weight + right.weight),
+            })
+        }
+        // two implications, joined by and
+        Kind::Iff => {
+            let left = weigh(src, at + 1)?;
+            let right = weigh(src, left.next)?;
+            Some(Weighed {
+                next: right.next,
+                weight: clamp(3 + 2 * (left.weight + right.weight)),
+            })
+        }
+        Kind::Equals => atom(src, at, 2),
+        Kind::All | Kind::Exists => {
+            let variables = count(word);
+            let part = weigh(src, at + 1 + variables)?;
+            Some(Weighed {
+                next: part.next,
+                weight: clamp(1 + variables + part.weight),
+            })
+        }
+        Kind::Predicate => atom(src, at, count(word)),
+        Kind::Function | Kind::Variable | Kind::Constant => None,
     }
 }

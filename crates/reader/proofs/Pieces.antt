@@ -1,72 +1,102 @@
--- Lists by places: what a definition by recursion on a text says of the text from a place on. The reader's loops keep it as they go on.
-use mathlib.Core.Path.{◌≡◌, refl, sym, ap, ◌∙◌}
+-- Lists by places: what a definition by recursion on a text says of the text from a place on.
+use mathlib.Core.Path.{◌≡◌, refl, ap, ◌∙◌}
 use mathlib.Core.Logic.{◌≢◌}
-use mathlib.Core.Bool.{Bool, true, false, ◌&&◌}
+use mathlib.Core.Bool.{Bool, true, false, not, cond, ◌&&◌}
 use mathlib.Core.List.{List, [], ◌∷◌}
-use Prim.Native.Nat.{ℕ, zero, suc, ◌+◌, ◌-◌, ◌<◌, ◌≤◌}
-use native.Mathlib.Numerals.{add-one}
+use Prim.Native.Nat.{ℕ, suc, ◌+◌, ◌-◌, ◌<◌, ◌≤◌}
 use native.Mathlib.Omega.{arith}
-use borrow.Author.Tests.{eq-eqb, ne_eqb, le-leb, ltb-true, ltb-false}
-use lib.Dec.{eqb, leb, ltb, eqb-zero-suc, eqb-suc-suc}
-use lib.ListN.{length, get_or, take, drop, drop_of_length-le, length-drop}
-use lib.Seq.{drop-cons, take_all, drop-drop, length-take-le}
+use borrow.Author.Tests.{le-leb, lt-leb, ltb-true, ltb-false}
+use lib.Dec.{eqb, leb, ltb}
+use lib.ListN.{length, get_or, take, drop, length-drop}
+use lib.Seq.{take_all, drop-drop, length-take-le}
 use Rattle.definitions.specs.Bytes.{Bytes, null, split, skip}
 use Rattle.definitions.specs.Limits.{house}
-use Rattle.definitions.specs.RuleText.{letter, Manner, behind, is_name}
+use Rattle.definitions.specs.RuleText.{letter, Manner, symbol_name, behind, is_name}
 use Rattle.definitions.proofs.Laws.Bools.{by_cases}
-use Rattle.reader.specs.Lines.{upto}
+use Rattle.std.specs.Prelude.{Option, Some, None}
+use Rattle.std.specs.Option.{unwrap_or}
+use Rattle.std.specs.List.{position_or_len, list_all}
+use Rattle.std.proofs.lemmas.List.Sums.{prefix_len-le-length}
+use Rattle.text.specs.declared.kind.Kind.{Kind}
+use Rattle.text.specs.declared.kind.Kind.TheVariants.{Top, Bottom, Not, And, Or, Implies, Iff, Equals, All, Exists, Predicate, Function, Variable, Constant}
+use Rattle.reader.specs.Lines.{upto, manner_of}
 
--- The first b from a place on.
-module _ (b : ℕ) (s : Bytes) (a : ℕ) (i : ℕ) (begun : a ≡ i + upto b (drop i s)) where
-  pub upto_stop : i < length s → get_or s i 0 ≡ b → i ≡ a
-  unfolding upto
-  upto_stop h d = sym (begun ∙ rw (drop-cons s i 0 h, eq-eqb (get_or s i 0) b d) (omega arith))
+-- What `position` finds, or the length where it finds nothing.
+pub first_place : (t : ℕ → Bool) (l : Bytes) (n : ℕ) (o : Option ℕ)
+    → o ≡ cond (ltb (position_or_len t l) (length l)) (Some (position_or_len t l)) None → n ≡ length l → unwrap_or o n ≡ position_or_len t l
+first_place t l n o e z =
+    by_cases (ltb (position_or_len t l) (length l))
+    (λ y. rw (e, y))
+    (λ f. rw (e, f) (omega (arith, ltb-false (position_or_len t l) (length l) f, prefix_len-le-length (λ (x : ℕ). not (t x)) l)))
 
-  pub upto_on : i < length s → get_or s i 0 ≢ b → a ≡ (i + 1) + upto b (drop (i + 1) s)
-  unfolding upto
-  upto_on h d = begun ∙ rw (add-one, drop-cons s i 0 h, ne_eqb (get_or s i 0) b d) (omega arith)
+-- the first b stands behind as many bytes as are none
+pub upto_is : (b : ℕ) (l : Bytes) → position_or_len (λ (x : ℕ). eqb x b) l ≡ upto b l
+unfolding upto
+upto_is b [] = refl
+upto_is b (x ∷ l) = by_cases (eqb x b) (λ t. rw t) (λ f. rw (f, upto_is b l) (omega arith))
 
-  pub upto_end : length s ≤ i → i ≡ a
-  unfolding upto
-  upto_end h = sym (begun ∙ rw (drop_of_length-le s h) (omega arith))
-
--- What stands behind the bytes of a set.
-module _ (p : ℕ → Bool) (s : Bytes) (i : ℕ) where
-  pub skip_stop : i < length s → p (get_or s i 0) ≡ false → drop i s ≡ skip p (drop i s)
-  unfolding skip
-  skip_stop h d = rw (drop-cons s i 0 h, d)
-
-  pub skip_on : i < length s → p (get_or s i 0) ≡ true → skip p (drop i s) ≡ skip p (drop (i + 1) s)
-  unfolding skip
-  skip_on h d = rw (add-one, drop-cons s i 0 h, d)
-
-  pub skip_end : length s ≤ i → drop i s ≡ skip p (drop i s)
-  unfolding skip
-  skip_end h = rw (drop_of_length-le s h)
+pub upto_within : (b : ℕ) (l : Bytes) → upto b l ≤ length l
+upto_within b l = rw (← upto_is b l) (prefix_len-le-length (λ (x : ℕ). not (eqb x b)) l)
 
 -- Names.
--- a text is at its end where nothing is left of it
-at_end : (s : Bytes) (m : ℕ) → m ≤ length s → eqb m (length s) ≡ null (drop m s)
-at_end [] zero h = refl
-at_end [] (suc m) h = absurd (omega arith)
-at_end (x ∷ s) zero h = eqb-zero-suc (length s)
-at_end (x ∷ s) (suc m) h = eqb-suc-suc m (length s) ∙ at_end s m (omega arith)
+-- nothing is left behind the bytes of a set where all bytes are in it
+pub all_skipped : (p : ℕ → Bool) (s : Bytes) → null (skip p s) ≡ list_all p s
+unfolding skip
+all_skipped p [] = refl
+all_skipped p (x ∷ s) = by_cases (p x) (λ t. rw t (all_skipped p s)) (λ f. rw f)
+
+-- the bytes of a set are skipped up to the first that is not in it
+pub skipped : (p : ℕ → Bool) (s : Bytes) → skip p s ≡ drop (position_or_len (λ x. not (p x)) s) s
+unfolding skip
+skipped p [] = refl
+skipped p (x ∷ s) =
+    by_cases (p x)
+    (λ t. let n = position_or_len (λ (x : ℕ). not (p x)) s in let z : 1 + n ≡ suc n = omega arith in rw (t, z) (skipped p s))
+    (λ f. rw f)
 
 module _ (m : Manner) (s : Bytes) where
-  pub name_none : length s ≡ 0 → false ≡ is_name house m s
+  pub name_none : length s < 1 → false ≡ is_name house m s
   unfolding is_name
-  name_none = elim s as (λ (x : Bytes). length x ≡ 0 → false ≡ is_name house m x) [ [] ↦ λ e. refl | b ∷ r ↦ λ e. absurd (omega arith) ]
+  name_none = elim s as (λ (x : Bytes). length x < 1 → false ≡ is_name house m x) [ [] ↦ λ h. refl | b ∷ r ↦ λ h. absurd (omega arith) ]
 
-  pub name_parts : 0 < length s → is_name house m s ≡ (leb (length s) house.name && letter (get_or s 0 0) && null (behind m (drop 1 s)))
+  name_parts : 1 ≤ length s → (leb (length s) house.name && letter (get_or s 0 0) && null (behind m (drop 1 s))) ≡ is_name house m s
   unfolding is_name
   name_parts =
-      elim s as (λ (x : Bytes). 0 < length x → is_name house m x ≡ (leb (length x) house.name && letter (get_or x 0 0) && null (behind m (drop 1 x)))) [
+      elim s as (λ (x : Bytes). 1 ≤ length x → (leb (length x) house.name && letter (get_or x 0 0) && null (behind m (drop 1 x))) ≡ is_name house m x) [
         | [] ↦ λ h. absurd (omega arith)
         | b ∷ r ↦ λ h. refl
       ]
 
-  pub name_ends : (i : ℕ) → 0 < length s → length s ≤ house.name → letter (get_or s 0 0) ≡ true → i ≤ length s → drop i s ≡ behind m (drop 1 s) → eqb i (length s) ≡ is_name house m s
-  name_ends i h l e n d = at_end s i n ∙ ap null d ∙ sym (name_parts h ∙ rw (le-leb (length s) 24 l, e))
+  pub name_long : house.name < length s → false ≡ is_name house m s
+  name_long h = rw (← name_parts (omega arith), lt-leb (length s) 24 h)
+
+  module _ (h : 1 ≤ length s) (g : length s ≤ house.name) where
+    pub name_other : letter (get_or s 0 0) ≡ false → false ≡ is_name house m s
+    name_other e = rw (← name_parts h, le-leb (length s) 24 g, e)
+
+    pub name_rest : letter (get_or s 0 0) ≡ true → null (behind m (drop 1 s)) ≡ is_name house m s
+    name_rest e = rw (← name_parts h, le-leb (length s) 24 g, e)
+
+-- a slice from a place on
+pub rest_of : (s : Bytes) (n : ℕ) → take (length s - n) (drop n s) ≡ drop n s
+rest_of s n = take_all (length s - n) (drop n s) (rw length-drop (omega arith))
+
+-- the kinds whose names are of the third manner
+pub other_manner : (kind : Kind) → kind ≢ Variable → kind ≢ Predicate → manner_of kind ≡ symbol_name
+other_manner Top v p = refl
+other_manner Bottom v p = refl
+other_manner Not v p = refl
+other_manner And v p = refl
+other_manner Or v p = refl
+other_manner Implies v p = refl
+other_manner Iff v p = refl
+other_manner Equals v p = refl
+other_manner All v p = refl
+other_manner Exists v p = refl
+other_manner Predicate v p = absurd (p refl)
+other_manner Function v p = refl
+other_manner Variable v p = absurd (v refl)
+other_manner Constant v p = refl
 
 -- Pieces.
 split_end : (b : ℕ) (s : Bytes) → length s ≤ upto b s → split b s ≡ s ∷ []
@@ -113,3 +143,6 @@ module _ (b : ℕ) (s : Bytes) (from end : ℕ) (h : from ≤ length s) (found :
       by_cases (ltb end (length s))
       (λ t. (split b (drop (end + 1) s), first_piece (ltb-true end (length s) t)))
       (λ f. ([], last_piece (ltb-false end (length s) f)))
+
+-- what is no name
+pub ruleset no_names = (name_none, name_long, name_other)

@@ -6,23 +6,27 @@ use mathlib.Core.List.{List, [], ◌∷◌, ◌++◌, append_assoc, append-nil}
 use Prim.Native.Nat.{ℕ, suc, ◌+◌, ◌*◌, ◌-◌, ◌<◌, ◌≤◌}
 use native.Mathlib.Numerals.{add-one}
 use native.Mathlib.Omega.{arith}
-use lib.ListN.{length, get_or, take, drop, replicate, length-replicate}
+use lib.ListN.{length, take, drop, replicate, length-replicate}
 use Rattle.definitions.specs.Bytes.{Bytes, LF, null, split}
 use Rattle.definitions.specs.Limits.{house}
 use Rattle.definitions.specs.Syntax.{Term, var, con, app, Terms, nil, cons, Formula, top, bot, pred, eq, neg, bin, blk}
-use Rattle.definitions.specs.RuleText.{Node, top_node, bot_node, not_node, eq_node, bin_node, block_node, pred_node, fun_node, var_node, con_node, term_nodes, terms_nodes, nodes, written}
-use Rattle.definitions.specs.Reading.{parse, node_weight, Due, some_due, Step, bad, over, on, place, Scan, read_nodes, bad_line, large_line, before, scan, as_formula, first, trees, settle, read}
+use Rattle.definitions.specs.RuleText.{Node, top_node, bot_node, not_node, eq_node, bin_node, block_node, pred_node, fun_node, var_node, con_node}
+use Rattle.definitions.specs.RuleText.{term_nodes, terms_nodes, nodes, written}
+use Rattle.definitions.specs.Reading.{parse, node_weight, Due, some_due, Step, bad, over, on, place, Scan, read_nodes, bad_line, large_line, before}
+use Rattle.definitions.specs.Reading.{scan, as_formula, first, trees, settle, read}
 use Rattle.definitions.proofs.Laws.Scanned.{served_scan}
 use Rattle.definitions.proofs.Laws.Reading.{read_iff, within_served}
 use Rattle.text.specs.Words.{term_code, terms_code, code}
-use Rattle.reader.specs.Lines.{upto, node_code, nodes_code, all_inside, Stand, Lies}
-use Rattle.reader.specs.Levels.{due_of, Ready, Fit, Moves}
+use Rattle.reader.specs.Lines.{upto, node_code, nodes_code, all_inside, Lies}
+use Rattle.reader.specs.Levels.{due, Ready, Fit, Written, move, Moves}
 use Rattle.reader.specs.Reader.{Says}
 use Rattle.text.specs.declared.table.Table.{Table}
-use Rattle.reader.specs.declared.Went.{Went}
-use Rattle.reader.specs.declared.Verdict.TheVariants.{Tree, Malformed, Large}
+use Rattle.reader.specs.declared.Stack.{Stack}
+use Rattle.reader.specs.declared.Flaw.{Flaw}
+use Rattle.reader.specs.declared.Flaw.TheVariants.{Malformed, Large}
+use Rattle.std.specs.Prelude.{Result, Ok, Err}
 use Rattle.reader.proofs.Pieces.{piece, split_many, first_piece, last_piece, piece_length}
-use Rattle.reader.proofs.Steps.{due_top}
+use Rattle.reader.proofs.Steps.{top_is, no_level}
 
 -- Tokens of nodes: a formula's nodes have the formula's tokens.
 code_append : (a b : List Node) → nodes_code (a ++ b) ≡ nodes_code a ++ nodes_code b
@@ -108,7 +112,8 @@ module _ (due : List Due) (w k : ℕ) (l : Bytes) where
   scan_over [] h e = absurd (omega arith)
   scan_over (m ∷ r) h e = ap (λ (s : Step). go_on s m r) e
 
-  scan_on : (r : List Bytes) → 0 < length r → (n : Node) (next : List Due) → place house due w (parse house l) ≡ on n next → scan house due w k (l ∷ r) ≡ before n (scan house next (w + node_weight n) (suc k) r)
+  scan_on : (r : List Bytes) → 0 < length r → (n : Node) (next : List Due) → place house due w (parse house l) ≡ on n next
+      → scan house due w k (l ∷ r) ≡ before n (scan house next (w + node_weight n) (suc k) r)
   unfolding scan go_on
   scan_on [] h n next e = absurd (omega arith)
   scan_on (m ∷ r) h n next e = ap (λ (s : Step). go_on s m r) e
@@ -119,7 +124,8 @@ unfolding read written
 nodes_of_tree text l e =
     let f = as_formula (first (trees l)) in
     let r = (read_iff house text f).0 (ap settle e) in
-    let s : scan house (some_due 1 false 1) 0 1 (split LF text) ≡ read_nodes (nodes f) = rw r.0 (served_scan house (nodes f) (some_due 1 false 1) 0 1 r.1.good (within_served house f r.1)) in
+    let s : scan house (some_due 1 false 1) 0 1 (split LF text) ≡ read_nodes (nodes f) = rw r.0
+    (served_scan house (nodes f) (some_due 1 false 1) 0 1 r.1.good (within_served house f r.1)) in
     same_nodes (nodes f) (sym e ∙ s)
   where
     same_nodes : (m : List Node) → read_nodes l ≡ read_nodes m → l ≡ m
@@ -138,93 +144,93 @@ some_weight (var_node x) = omega arith
 some_weight (con_node c) = omega arith
 
 -- Between two lines: the nodes that were read stand in the table, and the rest of the text is scanned where this is due.
-pub record State (text table due : List ℕ) (k used at line : ℕ) : Type 0 where
+pub record State (text : Bytes) (table : Table) (stack : Stack) (at line : ℕ) : Type 0 where
   pub done : List Node
   pub inside : at ≤ length text
-  pub ready : Ready due k
-  pub fit : Fit table used
-  pub stand : Stand text (take used table) (nodes_code done)
-  pub low : at ≤ 1025 * used
-  pub few : line ≤ 1 + used
-  pub scans : scan house (some_due 1 false 1) 0 1 (split LF text) ≡ before_all done (scan house (due_of due k) used line (split LF (drop at text)))
+  pub ready : Ready stack
+  pub fit : Fit table
+  pub stand : Written text table (nodes_code done)
+  pub low : at ≤ 1025 * table.used
+  pub few : line ≤ 1 + table.used
+  pub scans : scan house (some_due 1 false 1) 0 1 (split LF text) ≡ before_all done (scan house (due stack) table.used line (split LF (drop at text)))
 
-pub starts : (text due : List ℕ) (t : Table) → t ≡ record { nodes = replicate house.weight 0; used = 0 } → length due ≡ 65 → get_or due 0 0 ≡ 2 → State text t.nodes due 1 t.used 0 1
-unfolding due_of nodes_code all_inside
-starts text due t z d e =
+pub starts : (text : Bytes) (table : Table) (stack : Stack) → table ≡ record { nodes = replicate house.weight 0; used = 0 } → Ready stack
+    → due stack ≡ some_due 1 false 1 → State text table stack 0 1
+unfolding nodes_code all_inside
+starts text t stack z r e =
     let u : t.used ≡ 0 = ap (λ (t : Table). t.used) z in
     let n : length t.nodes ≡ 1024 = ap (λ (t : Table). length t.nodes) z ∙ length-replicate {A = ℕ} 1024 0 in
-    rw u (record {
+    record {
       done = [];
       inside = omega arith;
-      ready = record { len = d; room = omega arith; some_left = λ h. omega arith };
+      ready = r;
       fit = record { len = n; room = omega arith };
-      stand = record { mean = λ M. refl; within = refl };
+      stand = rw u (record { mean = λ M. refl; within = refl });
       low = omega arith;
       few = omega arith;
-      scans = rw e;
-    })
+      scans = rw (e, u);
+    }
 
-module _ (text table due : List ℕ) (k used at line : ℕ) (s : State text table due k used at line) (end : ℕ) (found : end ≡ at + upto 10 (drop at text)) where
+module _ (text : Bytes) (table : Table) (stack : Stack) (at line : ℕ) (s : State text table stack at line) (end : ℕ)
+    (found : end ≡ at + upto 10 (drop at text)) where
   -- the last piece, which has no LF
   module _ (g : length text ≤ end) where
-    last : scan house (some_due 1 false 1) 0 1 (split LF text) ≡ before_all s.done (scan house (due_of due k) used line (piece text at end ∷ []))
-    last = s.scans ∙ ap (λ (r : List Bytes). before_all s.done (scan house (due_of due k) used line r)) (last_piece 10 text at end s.inside found g)
+    last : scan house (some_due 1 false 1) 0 1 (split LF text) ≡ before_all s.done (scan house (due stack) table.used line (piece text at end ∷ []))
+    last = s.scans ∙ ap (λ (r : List Bytes). before_all s.done (scan house (due stack) table.used line r)) (last_piece 10 text at end s.inside found g)
 
-    refused : scan house (due_of due k) used line (piece text at end ∷ []) ≡ bad_line line → (t : Table) → Says (read house text) text (record { table = t; verdict = Malformed line })
+    refused : scan house (due stack) table.used line (piece text at end ∷ []) ≡ bad_line line → Says (read house text) text (Err (Malformed line))
     unfolding read
-    refused e t = rw (last, e, before_bad s.done line)
+    refused e = rw (last, e, before_bad s.done line)
 
-    pub ends : end ≤ length text → k ≡ 0 → end ≡ at → Says (read house text) text (record { table = record { nodes = table; used = used }; verdict = Tree })
-    unfolding read due_of
+    pub ends : end ≤ length text → stack.depth ≡ 0 → end ≡ at → Says (read house text) text (Ok table)
+    unfolding read
     ends h e d =
         let z : length (piece text at end) ≡ 0 = piece_length text at end (omega arith) h ∙ omega arith in
-        let n : null (due_of due k) ≡ true = rw e in
-        let whole = last ∙ ap (before_all s.done) (scan_ends (due_of due k) used line (piece text at end) z n) ∙ before_end s.done in
+        let n : null (due stack) ≡ true = ap null (no_level stack e) in
+        let whole = last ∙ ap (before_all s.done) (scan_ends (due stack) table.used line (piece text at end) z n) ∙ before_end s.done in
         let f = as_formula (first (trees s.done)) in
         let same_code : nodes_code s.done ≡ code f = ap nodes_code (nodes_of_tree text s.done whole) ∙ formula_nodes_code f in
-        rw whole (record { verdict = refl; holds = λ M. record { room = s.fit.room; words = s.stand.mean M ∙ same_code }; within = s.stand.within })
+        rw whole (record { holds = λ M. record { room = s.fit.room; words = s.stand.mean M ∙ same_code }; within = s.stand.within })
 
-    pub ends_bare : end ≤ length text → at ≤ end → (end ≡ at → ⊥) → (t : Table) → Says (read house text) text (record { table = t; verdict = Malformed line })
-    ends_bare h n d t =
+    pub ends_bare : end ≤ length text → at ≤ end → (end ≡ at → ⊥) → Says (read house text) text (Err (Malformed line))
+    ends_bare h n d =
         let z : 0 < length (piece text at end) = omega (arith, piece_length text at end n h) in
-        refused (scan_rest (due_of due k) used line (piece text at end) z) t
+        refused (scan_rest (due stack) table.used line (piece text at end) z)
 
-    pub ends_due : (k ≡ 0 → ⊥) → (t : Table) → Says (read house text) text (record { table = t; verdict = Malformed line })
-    ends_due d t =
-        let h : 0 < k = omega arith in
-        let n : null (due_of due k) ≡ false = ap null (due_top due k h (get_or due (k - 1) 0) refl (s.ready.some_left h)) in
-        refused (scan_due (due_of due k) used line (piece text at end) n) t
+    pub ends_due : (stack.depth ≡ 0 → ⊥) → Says (read house text) text (Err (Malformed line))
+    ends_due d =
+        let n : null (due stack) ≡ false = ap null (top_is stack s.ready (stack.depth - 1) (omega arith)).first in
+        refused (scan_due (due stack) table.used line (piece text at end) n)
 
   -- a line with its LF
-  module _ (g : end < length text) (h : at ≤ end) (r : Went) (due' table' : List ℕ) where
-    more : scan house (some_due 1 false 1) 0 1 (split LF text) ≡ before_all s.done (scan house (due_of due k) used line (piece text at end ∷ split LF (drop (end + 1) text)))
-    more = s.scans ∙ ap (λ (r : List Bytes). before_all s.done (scan house (due_of due k) used line r)) (first_piece 10 text at end s.inside found g)
+  module _ (g : end < length text) (h : at ≤ end) (r : Result Unit Flaw) (stack' : Stack) (table' : Table) where
+    more : scan house (some_due 1 false 1) 0 1 (split LF text) ≡ before_all s.done
+        (scan house (due stack) table.used line (piece text at end ∷ split LF (drop (end + 1) text)))
+    more = s.scans ∙ ap (λ (r : List Bytes). before_all s.done (scan house (due stack) table.used line r)) (first_piece 10 text at end s.inside found g)
 
     there : Lies text at (piece text at end)
     there = let n = piece_length text at end h (omega arith) in record { there = ap (λ (x : ℕ). take x (drop at text)) n; fits = omega arith }
 
-    pub stops_bad : (m : Step) → place house (due_of due k) used (parse house (piece text at end)) ≡ m → Moves at used (piece text at end) table m r due' table' → r.fate ≡ 2
-        → (t : Table) → Says (read house text) text (record { table = t; verdict = Malformed line })
+    pub stops : (flaw : Flaw) → r ≡ Err flaw → (m : Step) → move stack table (piece text at end) ≡ m
+        → Moves at line (piece text at end) table m r stack' table' → Says (read house text) text (Err flaw)
     unfolding read
-    stops_bad bad e w z t = rw (more, scan_bad (due_of due k) used line _ _ (split_many 10 _) e, before_bad s.done line)
-    stops_bad over e w z t = absurd (omega arith)
-    stops_bad (on n d) e w z t = absurd (omega (arith, w.fine))
+    stops flaw z bad e w =
+        let y : flaw ≡ Malformed line = cc in
+        rw (more, scan_bad (due stack) table.used line _ _ (split_many 10 _) e, before_bad s.done line, y)
+    stops flaw z over e w =
+        let y : flaw ≡ Large line = cc in
+        rw (more, scan_over (due stack) table.used line _ _ (split_many 10 _) e, before_large s.done line, y)
+    stops flaw z (on n d) e w = absurd (rw z at w)
 
-    pub stops_large : (m : Step) → place house (due_of due k) used (parse house (piece text at end)) ≡ m → Moves at used (piece text at end) table m r due' table' → (r.fate ≡ 2 → ⊥) → (r.fate ≡ 0 → ⊥)
-        → (t : Table) → Says (read house text) text (record { table = t; verdict = Large line })
-    unfolding read
-    stops_large bad e w y z t = absurd (y w)
-    stops_large over e w y z t = rw (more, scan_over (due_of due k) used line _ _ (split_many 10 _) e, before_large s.done line)
-    stops_large (on n d) e w y z t = absurd (z w.fine)
-
-    pub leads : (m : Step) → place house (due_of due k) used (parse house (piece text at end)) ≡ m → Moves at used (piece text at end) table m r due' table' → r.fate ≡ 0 → Fit table' r.used → Ready due' r.levels
-        → State text table' due' r.levels r.used (end + 1) (line + 1)
+    pub leads : r ≡ Ok tt → (m : Step) → move stack table (piece text at end) ≡ m → Moves at line (piece text at end) table m r stack' table'
+        → Ready stack' → Fit table' → State text table' stack' (end + 1) (line + 1)
     unfolding nodes_code
-    leads bad e w z f d = absurd (omega arith)
-    leads over e w z f d = absurd (omega arith)
-    leads (on n d) e w z f y =
+    leads z bad e w y f = absurd cc
+    leads z over e w y f = absurd cc
+    leads z (on n d) e w y f =
         let p = piece_length text at end h (omega arith) in
         let o = some_weight n in
+        let w = rw z at w in
         record {
           done = s.done ++ (n ∷ []);
           inside = omega arith;
@@ -235,7 +241,7 @@ module _ (text table due : List ℕ) (k used at line : ℕ) (s : State text tabl
           few = omega (arith, w.weight, s.few);
           scans =
               more
-              ∙ ap (before_all s.done) (scan_on (due_of due k) used line _ _ (split_many 10 _) n d e)
-              ∙ sym (before_snoc s.done n (scan house d (used + node_weight n) (suc line) (split LF (drop (end + 1) text))))
-              ∙ rw (w.next, w.weight, add-one line);
+              ∙ ap (before_all s.done) (scan_on (due stack) table.used line _ _ (split_many 10 _) n d e)
+              ∙ sym (before_snoc s.done n (scan house d (table.used + node_weight n) (suc line) (split LF (drop (end + 1) text))))
+              ∙ rw (w.left, w.weight, add-one line);
         }

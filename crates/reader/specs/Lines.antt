@@ -1,12 +1,18 @@
 -- A line of rule text as the reader takes it apart: the kind that its keyword names, the name and the count behind it, and the words that
--- stand for its node. A kind is the keyword's place among `top` `bot` `not` `and` `or` `imp` `iff` `eq` `all` `ex` `pred` `fun` `var` `con`.
-use Rattle.std.specs.Prelude.{◌≡◌, Bool, true, not, ◌&&◌, cond, List, [], ◌∷◌, ◌++◌, map, ℕ, suc, ◌+◌, ◌-◌, ◌≤◌, ◌<◌, eqb, leb, length, get_or, take, drop}
-use Rattle.std.proofs.Math.Option.{Option, none, some}
-use Rattle.definitions.specs.Bytes.{Bytes, TAB, same, split}
+-- stand for its node.
+use Rattle.std.specs.Prelude.{◌≡◌, Bool, true, false, not, ◌&&◌, cond, List, [], ◌∷◌, ◌++◌, map, ℕ, suc, ◌+◌, ◌-◌, ◌≤◌, ◌<◌, eqb, leb, ltb, length}
+use Rattle.std.specs.Prelude.{take, drop, Option, Some, None, MatchOption}
+use Rattle.std.proofs.Math.Option.{Option as Perhaps, none, some}
+use Rattle.definitions.specs.Bytes.{Bytes, TAB, split, number}
 use Rattle.definitions.specs.Limits.{house}
-use Rattle.definitions.specs.RuleText.{Manner, simple_name, variable_name, symbol_name, digit, word, hashed, tick, Node, top_node, bot_node, not_node, eq_node, bin_node, block_node, pred_node, fun_node, var_node, con_node}
-use Rattle.definitions.specs.Reading.{Kind, unknown, keywords, all_names, node_weight}
-use Rattle.text.specs.Words.{is_made, size_of, start_of, Token, var_token, sign, tokens, op_kind, block_kind, block_code}
+use Rattle.definitions.specs.Syntax.{and, or, imp, iff, all, ex}
+use Rattle.definitions.specs.RuleText.{Manner, simple_name, variable_name, symbol_name, digit, Node, top_node, bot_node, not_node, eq_node, bin_node}
+use Rattle.definitions.specs.RuleText.{block_node, pred_node, fun_node, var_node, con_node}
+use Rattle.definitions.specs.Reading.{Kind as Keyword, unknown, keywords, look_up, alone, blocks, applied, symbol, of_kind, all_names, counted}
+use Rattle.definitions.specs.Reading.{node_weight, is_term, parts, some_due}
+use Rattle.text.specs.declared.kind.Kind.{Kind}
+use Rattle.text.specs.declared.kind.Kind.TheVariants.{Top, Bottom, Not, And, Or, Implies, Iff, Equals, All, Exists, Predicate, Function, Variable, Constant}
+use Rattle.text.specs.Words.{is_made, size_of, start_of, Token, var_token, sign, tokens, op_kind, block_code}
 use Rattle.reader.specs.declared.Seen.{Seen}
 
 -- how many bytes stand before the first b
@@ -14,57 +20,121 @@ unfoldable pub upto : ℕ → Bytes → ℕ
 upto b [] = 0
 upto b (x ∷ s) = cond (eqb x b) 0 (suc (upto b s))
 
--- the place of a word among keywords, counted from k: past the last where it is none of them
-unfoldable pub kind_from : ℕ → List (Bytes × Kind) → Bytes → ℕ
-kind_from k [] w = k
-kind_from k (e ∷ l) w = cond (same w e.0) k (kind_from (suc k) l w)
+-- what a kind's keyword stands for
+abbrev pub keyword_of : Kind → Keyword
+keyword_of Top = alone top_node
+keyword_of Bottom = alone bot_node
+keyword_of Not = alone not_node
+keyword_of And = alone (bin_node and)
+keyword_of Or = alone (bin_node or)
+keyword_of Implies = alone (bin_node imp)
+keyword_of Iff = alone (bin_node iff)
+keyword_of Equals = alone eq_node
+keyword_of All = blocks all
+keyword_of Exists = blocks ex
+keyword_of Predicate = applied simple_name pred_node
+keyword_of Function = applied symbol_name fun_node
+keyword_of Variable = symbol variable_name var_node
+keyword_of Constant = symbol symbol_name con_node
 
-abbrev pub kind_at : ℕ → Kind
-kind_at k = (get_or keywords k ([], unknown)).1
+-- a word that is a kind's keyword, and one that is no keyword
+pub record Named (w : Bytes) (kind : Kind) : Type 0 where
+  pub meaning : look_up keywords w ≡ keyword_of kind
 
--- the sets of bytes that a name is made of, by number, and the manner of the names that a kind takes
-unfoldable pub among : ℕ → ℕ → Bool
-among k b = cond (eqb k 0) (word b) (cond (eqb k 1) (hashed b) (tick b))
+pub record Unnamed (w : Bytes) : Type 0 where
+  pub meaning : look_up keywords w ≡ unknown
 
-abbrev pub manner_at : ℕ → Manner
-manner_at k = cond (eqb k 12) variable_name (cond (eqb k 10) simple_name symbol_name)
+-- the manner of the names that a kind has
+abbrev pub manner_of : Kind → Manner
+manner_of Variable = variable_name
+manner_of Predicate = simple_name
+manner_of Top = symbol_name
+manner_of Bottom = symbol_name
+manner_of Not = symbol_name
+manner_of And = symbol_name
+manner_of Or = symbol_name
+manner_of Implies = symbol_name
+manner_of Iff = symbol_name
+manner_of Equals = symbol_name
+manner_of All = symbol_name
+manner_of Exists = symbol_name
+manner_of Function = symbol_name
+manner_of Constant = symbol_name
 
--- a digit's value, 100 for any other byte
-abbrev pub digit_value : ℕ → ℕ
-digit_value b = cond (digit b) (b - 48) 100
+-- a digit's value
+abbrev pub digit_value : ℕ → Option ℕ
+digit_value b = cond (digit b) (Some (b - 48)) None
 
--- how many variables there are, n and those of l: 33 where one is none, or where they are too many
-unfoldable pub tally : ℕ → List Bytes → ℕ
-tally n l = cond (leb (n + length l) house.block && all_names house variable_name l) (n + length l) 33
+-- an answer of the code as an option of the definitions
+abbrev pub perhaps : Option ℕ → Perhaps ℕ
+perhaps None = none
+perhaps (Some n) = some n
 
--- parts of the kinds that stand alone on a line
-abbrev pub arity_at : ℕ → ℕ
-arity_at k = cond (leb k 1) 0 (cond (leb k 2) 1 2)
+-- s counts as an argument count just where n does, and as the same
+abbrev pub Counted : Bytes → Option ℕ → Type 0
+Counted s n = (make : ℕ → Node) → counted house (number s) make ≡ counted house (perhaps n) make
 
--- a node's kind, how many parts it has, and what they are
-abbrev pub node_kind : Node → ℕ
-node_kind top_node = 0
-node_kind bot_node = 1
-node_kind not_node = 2
-node_kind eq_node = 7
-node_kind (bin_node o) = op_kind o
-node_kind (block_node q vs) = block_kind q
-node_kind (pred_node p n) = 10
-node_kind (fun_node f n) = 11
-node_kind (var_node x) = 12
-node_kind (con_node c) = 13
+-- the fields of l behind the keyword, which ends at `end`
+abbrev pub behind : Bytes → ℕ → List Bytes
+behind l end = cond (ltb end (length l)) (split TAB (drop (end + 1) l)) []
 
-abbrev pub node_parts : Node → ℕ
-node_parts top_node = 0
-node_parts bot_node = 0
-node_parts not_node = 1
-node_parts eq_node = 2
-node_parts (bin_node o) = 2
-node_parts (block_node q vs) = 1
-node_parts (pred_node p n) = n
-node_parts (fun_node f n) = n
-node_parts (var_node x) = 0
-node_parts (con_node c) = 0
+-- whether a block may have these variables
+abbrev pub block_fits : List Bytes → Bool
+block_fits l = leb (length l) house.block && all_names house variable_name l
+
+-- n is how many variables they are, if a block may have them
+abbrev pub Tallied : List Bytes → Option ℕ → Type 0
+Tallied l n = MatchOption n (block_fits l ≡ false) (λ n. (block_fits l ≡ true) × (n ≡ length l))
+
+-- the kinds that stand alone on a line, with how many parts they have
+abbrev pub Alone : Kind → ℕ → Type 0
+Alone Top n = n ≡ 0
+Alone Bottom n = n ≡ 0
+Alone Not n = n ≡ 1
+Alone And n = n ≡ 2
+Alone Or n = n ≡ 2
+Alone Implies n = n ≡ 2
+Alone Iff n = n ≡ 2
+Alone Equals n = n ≡ 2
+Alone All n = ⊥
+Alone Exists n = ⊥
+Alone Predicate n = ⊥
+Alone Function n = ⊥
+Alone Variable n = ⊥
+Alone Constant n = ⊥
+
+-- whether a kind's nodes are terms, and whether their parts are
+abbrev pub kind_is_term : Kind → Bool
+kind_is_term Function = true
+kind_is_term Variable = true
+kind_is_term Constant = true
+kind_is_term Top = false
+kind_is_term Bottom = false
+kind_is_term Not = false
+kind_is_term And = false
+kind_is_term Or = false
+kind_is_term Implies = false
+kind_is_term Iff = false
+kind_is_term Equals = false
+kind_is_term All = false
+kind_is_term Exists = false
+kind_is_term Predicate = false
+
+abbrev pub parts_are_terms : Kind → Bool
+parts_are_terms Equals = true
+parts_are_terms Predicate = true
+parts_are_terms Function = true
+parts_are_terms Variable = false
+parts_are_terms Constant = false
+parts_are_terms Top = false
+parts_are_terms Bottom = false
+parts_are_terms Not = false
+parts_are_terms And = false
+parts_are_terms Or = false
+parts_are_terms Implies = false
+parts_are_terms Iff = false
+parts_are_terms All = false
+parts_are_terms Exists = false
 
 -- the tokens of a node without its parts, and of nodes one behind another
 abbrev pub node_code : Node → List Token
@@ -101,26 +171,37 @@ pub record Lies (T : Bytes) (at : ℕ) (l : Bytes) : Type 0 where
   pub there : take (length l) (drop at T) ≡ l
   pub fits : at + length l ≤ length T
 
--- the variables of a block, n of them, are the fields of l from `from` on
+-- the variables of a block, n of them, stand in l from `from` on
+abbrev pub names_from : Bytes → ℕ → ℕ → List Bytes
+names_from l from n = take n (split TAB (drop from l))
+
 pub record Fields (l : Bytes) (from n : ℕ) : Type 0 where
-  pub starts : from ≤ length l
-  pub number : length (split TAB (drop from l)) ≡ n
-  pub names : all_names house variable_name (split TAB (drop from l)) ≡ true
+  pub starts : 0 < n → from ≤ length l
+  pub number : n ≤ length (split TAB (drop from l))
+  pub names : all_names house variable_name (names_from l from n) ≡ true
 
 -- the node n of the line l, which stands at `at`, as it was seen: its kind and parts, its first word, and where a block's variables stand
 pub record Sees (at : ℕ) (l : Bytes) (n : Node) (r : Seen) : Type 0 where
-  pub kind : r.kind ≡ node_kind n
-  pub parts : r.parts ≡ node_parts n
-  pub few : r.parts ≤ house.arguments
-  pub weight : node_weight n ≡ 1 + r.vars
-  pub slim : r.vars ≤ house.block
+  pub sort : kind_is_term r.kind ≡ is_term n
+  pub below : (d : ℕ) → parts n d ≡ some_due r.parts (parts_are_terms r.kind) d
+  pub weight : node_weight n ≡ 1 + r.variables
+  pub slim : r.variables ≤ house.block
   pub short : length l ≤ house.line
+  pub block : Fields l r.from r.variables
   pub head : Token
   pub first : (T : Bytes) → Lies T at l → Stand T (r.word ∷ []) (head ∷ [])
-  pub alone : r.vars ≡ 0 → node_code n ≡ head ∷ []
-  pub block : 0 < r.vars → (Fields l r.from r.vars) × (node_code n ≡ head ∷ map var_token (split TAB (drop r.from l)))
+  pub code : node_code n ≡ head ∷ map var_token (names_from l r.from r.variables)
 
--- a line that has no node is seen with a kind past the last
-abbrev pub Saw : ℕ → Bytes → Option Node → Seen → Type 0
-Saw at l none r = 13 < r.kind
-Saw at l (some n) r = Sees at l n r
+-- a line that has no node is seen as none
+abbrev pub Saw : ℕ → Bytes → Perhaps Node → Option Seen → Type 0
+Saw at l none r = r ≡ None
+Saw at l (some n) r = MatchOption r ⊥ (Sees at l n)
+
+-- a keyword ends at `end` in the line l
+pub record Ends (l : Bytes) (end : ℕ) : Type 0 where
+  pub short : length l ≤ house.line
+  pub inside : end ≤ length l
+
+-- what was seen of the line l at `at`, whose keyword is the kind's and ends at `end`
+abbrev pub SawAs : Kind → ℕ → ℕ → Bytes → Option Seen → Type 0
+SawAs kind end at l r = Saw at l (of_kind house (keyword_of kind) (behind l end)) r

@@ -3,7 +3,5 @@ mod Roots
 mod Moving
 mod Joining
 mod Fitting
-mod Pasting
-mod Copying
+mod Binding
 mod Reducing
-mod Wholes

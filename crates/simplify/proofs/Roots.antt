@@ -8,9 +8,9 @@ use native.Mathlib.Decide.{dec_le}
 use lib.ListN.{length, get_or}
 use lib.Seq.{slice}
 use Rattle.definitions.specs.Bytes.{Bytes}
-use Rattle.definitions.specs.Syntax.{Op, and, or, imp, iff, Formula, top, bot, pred, eq, neg, bin, blk}
+use Rattle.definitions.specs.Syntax.{Formula, top, bot, pred, eq, neg, bin, blk}
 use Rattle.definitions.specs.Simplify.{is_top, is_bot, turn}
-use Rattle.text.specs.Words.{token, tokens, kind_of_word, kind, code, root, below, op_kind}
+use Rattle.text.specs.Words.{token, tokens, kind_of_word, kind, code, root, below}
 use Rattle.text.specs.WordLaws.{kind_is}
 use Rattle.text.specs.Shapes.{code_splits, op_range, block_range}
 use Rattle.substitution.specs.Slices.{slice_next, slice_none}
@@ -85,28 +85,3 @@ no_constant (eq t u) e = (refl, refl)
 no_constant (neg f) e = (refl, refl)
 no_constant (bin o f g) e = (refl, refl)
 no_constant (blk q vs f) e = (refl, refl)
-
--- the binary nodes by their kinds
-pub only_and : {kind : ℕ} → kind ≤ 3 → (o : Op) → op_kind o ≡ kind → o ≡ and
-only_and h and e = refl
-only_and h or e = absurd (omega arith)
-only_and h imp e = absurd (omega arith)
-only_and h iff e = absurd (omega arith)
-
-pub only_or : {kind : ℕ} → 3 < kind → kind ≤ 4 → (o : Op) → op_kind o ≡ kind → o ≡ or
-only_or h l and e = absurd (omega arith)
-only_or h l or e = refl
-only_or h l imp e = absurd (omega arith)
-only_or h l iff e = absurd (omega arith)
-
-pub only_imp : {kind : ℕ} → 4 < kind → kind ≤ 5 → (o : Op) → op_kind o ≡ kind → o ≡ imp
-only_imp h l and e = absurd (omega arith)
-only_imp h l or e = absurd (omega arith)
-only_imp h l imp e = refl
-only_imp h l iff e = absurd (omega arith)
-
-pub only_iff : {kind : ℕ} → 5 < kind → (o : Op) → op_kind o ≡ kind → o ≡ iff
-only_iff h and e = absurd (omega arith)
-only_iff h or e = absurd (omega arith)
-only_iff h imp e = absurd (omega arith)
-only_iff h iff e = refl

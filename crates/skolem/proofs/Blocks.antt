@@ -54,11 +54,6 @@ surveyed left exists g l = survey (λ t. t) blank_token left exists g l
 abbrev kept : List Name → List Token
 kept g = map var_token (take most g)
 
-either_way : (a b : Bool) (g l : List Token) → surveyed 0 a g l ≡ surveyed 0 b g l
-unfolding survey
-either_way a b g [] = refl
-either_way a b g (t ∷ l) = refl
-
 all_vars : (vs g : List Name) (l : List Token)
     → surveyed (length vs) false (kept g) (map var_token vs ++ l) ≡ behind (map var_token vs) (surveyed 0 false (kept (g ++ without (names l) vs)) l)
 unfolding survey filter

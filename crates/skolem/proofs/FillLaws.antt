@@ -1,188 +1,171 @@
--- Words written one behind another, and one by one; the head that a variable belongs to, found entry by entry; what stays of the prefix.
-use mathlib.Core.Path.{◌≡◌, refl, sym, ap, ◌∙◌}
+-- Words written one behind another; the head that a variable belongs to, looked for from the last entry on; what stays of the prefix.
+use mathlib.Core.Path.{◌≡◌, refl, sym, ap, ap₂, subst, ◌∙◌}
 use mathlib.Core.Bool.{Bool, true, false, cond}
 use mathlib.Core.List.{List, [], ◌∷◌, ◌++◌, map, map-append, flat_map, append_assoc, append-nil}
-use Prim.Native.Nat.{ℕ, zero, suc, ◌+◌, ◌/◌, ◌%◌, ◌≤◌, ◌<◌, min, max}
+use Prim.Native.Nat.{ℕ, suc, ◌+◌, ◌-◌, ◌%◌, ◌≤◌, ◌<◌, min, max}
 use native.Mathlib.Numerals.{add-one}
 use native.Mathlib.Omega.{arith}
-use borrow.Author.Tests.{ne_eqb}
-use lib.ListN.{length, take, set, get_or, length-set, length-take, length-append, drop_of_length-le, take-append-drop}
-use lib.Seq.{slice, take-suc, take-suc-set, take-take, take_all}
+use lib.Dec.{eqb}
+use lib.ListN.{length, take, drop, set, get_or, length-set, length-take, length-append, length-map, take-append-drop}
+use lib.Seq.{take-suc, take-suc-set, take_all}
+use Rattle.std.proofs.lemmas.List.{take_min}
 use Rattle.definitions.specs.Bytes.{Bytes}
-use Rattle.definitions.specs.Limits.{house}
-use Rattle.definitions.proofs.Laws.Bools.{clash}
-use Rattle.text.specs.Words.{Token, token, tokens, spell}
-use Rattle.text.specs.WordLaws.{variable_word, other_word, kind_is}
-use Rattle.skolem.specs.declared.matrix.Went.{Went}
+use Rattle.definitions.proofs.Laws.Bools.{by_cases}
+use Rattle.text.specs.Words.{Token, var_token, sign, token, tokens, spell, kind, count, behind}
+use Rattle.text.specs.WordLaws.{variable_word}
 use Rattle.skolem.specs.Pass.{stays, keep, pick, binds, whole, put_in, filled, reach}
-use Rattle.skolem.specs.Filling.{width, Fit, Added, done, over, wide, Adds, Keeps}
+use Rattle.skolem.specs.Filling.{width, Added, Lacks, Keeps}
 use Rattle.skolem.proofs.Lists.{flat_append}
 use Rattle.skolem.proofs.Found.{reach_append}
 use Rattle.skolem.proofs.Blocks.{keep_append}
-use Rattle.skolem.proofs.WordLaws.{slice_one}
 
 width_append : (a b : List ℕ) → width (a ++ b) ≡ max (width a) (width b)
 width_append a b = ap reach (map-append (token [] []) a b) ∙ reach_append (tokens [] [] a) (tokens [] [] b)
 
--- the count after words were written
-counted : {O O' : List ℕ} {used n room : ℕ} (o : List ℕ) → Fit O used room → Fit O' n room → take n O' ≡ take used O ++ o → n ≡ used + length o
-counted o f g e = omega (arith, simp (length-append, length-take) at (ap length e))
-
-pub adds_none : {O : List ℕ} {used room : ℕ} → Fit O used room → Adds O used room O (record { used = used; stopped = false }) []
-unfolding reach
-adds_none {O} {used} f = record { fit = f; added = done refl (sym (append-nil (take used O))) (omega arith) }
-
-module _ {O : List ℕ} {used room : ℕ} {O₁ : List ℕ} {r : Went} where
-  -- words written, and more behind them
-  pub adds_both : {O₂ : List ℕ} {q : Went} {a b : List ℕ} → Fit O used room → r.stopped ≡ false → Adds O used room O₁ r a → Adds O₁ r.used room O₂ q b → Adds O used room O₂ q (a ++ b)
-  adds_both {O₂} {q} {a} {b} f z s t = record { fit = t.fit; added = first s.added t.added }
-    where
-      first : Added O used room O₁ r a → Added O₁ r.used room O₂ q b → Added O used room O₂ q (a ++ b)
-      first (done e i w) (done e₂ i₂ w₂) =
-          done e₂ (i₂ ∙ ap (λ (l : List ℕ). l ++ b) i ∙ append_assoc (take used O) a b) (omega (arith, width_append a b))
-      first (done e i w) (over e₂ l) = over e₂ (omega (arith, length-append a b, counted a f s.fit i))
-      first (done e i w) (wide e₂ l) = wide e₂ (omega (arith, width_append a b))
-      first (over e l) k = clash e z
-      first (wide e l) k = clash e z
-
-  -- words that were not all written, whatever was to be written behind them
-  pub adds_stop : {a : List ℕ} (b : List ℕ) → r.stopped ≡ true → Adds O used room O₁ r a → Adds O used room O₁ r (a ++ b)
-  adds_stop {a} b z s = record { fit = s.fit; added = first s.added }
-    where
-      first : Added O used room O₁ r a → Added O used room O₁ r (a ++ b)
-      first (done e i w) = clash z e
-      first (over e l) = over e (omega (arith, length-append a b))
-      first (wide e l) = wide e (omega (arith, width_append a b))
-
 -- One word.
-function_width : (w : ℕ) → w % 16 ≡ 11 → width (w ∷ []) ≡ w / 16 % 64
+word_width : (w : ℕ) → width (w ∷ []) ≡ behind (token [] [] w)
 unfolding reach
-function_width w e = rw (other_word [] [] w (λ q. omega arith), e) (omega arith)
+word_width w = of (token [] [] w)
+  where
+    of : (t : Token) → max (cond (eqb (kind t) 11) (count t) 0) 0 ≡ behind t
+    of (var_token x) = omega arith
+    of (sign k n s) = by_cases (eqb k 11) (λ t. rw t (omega arith)) (λ f. rw f (omega arith))
 
-other_width : (w : ℕ) → (w % 16 ≡ 11 → ⊥) → width (w ∷ []) ≡ 0
+pub put_one : {O : List ℕ} {used w n : ℕ} → used < length O → n ≡ behind (token [] [] w) → n ≤ 32 → Added O used (set O used w) (used + 1) (w ∷ [])
+put_one {O} {used} {w} h e k = record {
+  fits = simp length-set (omega arith);
+  words = rw (add-one used) (take-suc-set O used w h);
+  narrow = omega (arith, word_width w);
+}
+
+pub no_room : (O : List ℕ) (used w : ℕ) → length O ≤ used → Lacks O used (w ∷ [])
+no_room O used w h a b = omega arith
+
+pub too_wide : (O : List ℕ) (used w : ℕ) {n : ℕ} → n ≡ behind (token [] [] w) → 32 < n → Lacks O used (w ∷ [])
+too_wide O used w e h a b = omega (arith, word_width w)
+
+-- Nothing, and words behind others.
+pub added_none : (O : List ℕ) → Added O 0 O 0 []
 unfolding reach
-other_width w e = rw (kind_is [] [] w, ne_eqb (w % 16) 11 e) (omega arith)
+added_none O = record { fits = omega arith; words = refl; narrow = omega arith }
 
-module _ {O : List ℕ} {used room : ℕ} (f : Fit O used room) (w : ℕ) where
-  pub no_room : room ≤ used → Adds O used room O (record { used = used; stopped = true }) (w ∷ [])
-  no_room h = record { fit = f; added = over refl (omega arith) }
+pub added_both : {O O₁ O₂ : List ℕ} {used n m : ℕ} (a b : List ℕ) → Added O used O₁ n a → Added O₁ n O₂ m b → Added O used O₂ m (a ++ b)
+added_both {O} {O₁} {O₂} {used} a b s t = record {
+  fits = t.fits;
+  words = t.words ∙ ap (λ (l : List ℕ). l ++ b) s.words ∙ append_assoc (take used O) a b;
+  narrow = omega (arith, width_append a b, s.narrow, t.narrow);
+}
 
-  pub too_wide : w % 16 ≡ 11 → 32 < w / 16 % 64 → Adds O used room O (record { used = used; stopped = true }) (w ∷ [])
-  too_wide e h = record { fit = f; added = wide refl (omega (arith, function_width w e)) }
+pub lacks_first : (O : List ℕ) (used : ℕ) (a b : List ℕ) → Lacks O used a → Lacks O used (a ++ b)
+lacks_first O used a b l h k = l (omega (arith, length-append a b)) (omega (arith, width_append a b))
 
-  one_word : used < room → width (w ∷ []) ≤ house.arguments → Adds O used room (set O used w) (record { used = used + 1; stopped = false }) (w ∷ [])
-  one_word h k = record {
-    fit = record { size = length-set O used w ∙ f.size; within = omega arith; whole = f.whole };
-    added = done refl (ap (λ (n : ℕ). take n (set O used w)) (add-one used) ∙ take-suc-set O used w (omega (arith, f.size, f.whole))) k;
-  }
+pub lacks_then : {O O₁ : List ℕ} {used n : ℕ} (a b : List ℕ) → length O₁ ≡ length O → Added O used O₁ n a → Lacks O₁ n b → Lacks O used (a ++ b)
+lacks_then {O} {O₁} {used} {n} a b e s l h k =
+    let counted : n ≡ used + length a = omega (arith, s.fits, simp (length-append, length-take) at (ap length s.words), length-append a b) in
+    l (omega (arith, length-append a b)) (omega (arith, width_append a b))
 
-  pub function_put : used < room → w % 16 ≡ 11 → w / 16 % 64 ≤ 32 → Adds O used room (set O used w) (record { used = used + 1; stopped = false }) (w ∷ [])
-  function_put h e k = one_word h (omega (arith, function_width w e))
+-- A run over a list, behind the words p, where F is what is written for words.
+module _ (F : List ℕ → List ℕ) (joins : (a b : List ℕ) → F (a ++ b) ≡ F a ++ F b) (p l : List ℕ) {O : List ℕ} {used : ℕ} {O₁ : List ℕ} {n i : ℕ} (s : Added O used O₁ n (p ++ F (take i l))) where
+  more : i < length l → take (i + 1) l ≡ take i l ++ (get_or l i 0 ∷ [])
+  more h = rw (add-one i) (take-suc l i 0 h)
 
-  pub other_put : used < room → (w % 16 ≡ 11 → ⊥) → Adds O used room (set O used w) (record { used = used + 1; stopped = false }) (w ∷ [])
-  other_put h e = one_word h (omega (arith, other_width w e))
+  pub run_on : {O₂ : List ℕ} {m : ℕ} → i < length l → Added O₁ n O₂ m (F (get_or l i 0 ∷ [])) → Added O used O₂ m (p ++ F (take (i + 1) l))
+  run_on h t =
+      rw (more h, joins (take i l) (get_or l i 0 ∷ []), ← append_assoc p (F (take i l)) (F (get_or l i 0 ∷ []))) (added_both (p ++ F (take i l)) (F (get_or l i 0 ∷ [])) s t)
 
--- One more of the first n.
-pub take_one : (i n : ℕ) (l : List ℕ) → i < n → n ≤ length l → take (i + 1) (take n l) ≡ take i (take n l) ++ (get_or l i 0 ∷ [])
-take_one i n l h k = rw (take-take (i + 1) n l (omega arith), take-take i n l (omega arith), add-one i) (take-suc l i 0 (omega arith))
-
-pub take_rest : (i n : ℕ) (l : List ℕ) → i < n → n ≤ length l → take n l ≡ (take i (take n l) ++ (get_or l i 0 ∷ [])) ++ slice (i + 1) n l
-take_rest i n l h k = sym (rw (← take_one i n l h k) (take-append-drop (i + 1) (take n l)))
-
--- A run over the first n words of a list, where F is what is written for words.
-module _ (F : List ℕ → List ℕ) (joins : (a b : List ℕ) → F (a ++ b) ≡ F a ++ F b) {O : List ℕ} {used room : ℕ} (f : Fit O used room) (n : ℕ) (l : List ℕ) (all : n ≤ length l) where
-  abbrev SoFar : List ℕ → ℕ → ℕ → Type 0
-  SoFar O₁ written i = Adds O used room O₁ (record { used = written; stopped = false }) (F (take i (take n l)))
-
-  module _ {O₁ : List ℕ} {written i : ℕ} {O₂ : List ℕ} {r : Went} (h : i < n) (s : SoFar O₁ written i) (t : Adds O₁ written room O₂ r (F (get_or l i 0 ∷ []))) where
-    one_more : Adds O used room O₂ r (F (take i (take n l) ++ (get_or l i 0 ∷ [])))
-    one_more = rw (joins (take i (take n l)) (get_or l i 0 ∷ [])) (adds_both f refl s t)
-
-    pub run_on : r.stopped ≡ false → SoFar O₂ r.used (i + 1)
-    run_on z = rw (take_one i n l h all, ← z) one_more
-
-    pub run_stop : r.stopped ≡ true → Adds O used room O₂ r (F (take n l))
-    run_stop z =
-        rw (take_rest i n l h all, joins (take i (take n l) ++ (get_or l i 0 ∷ [])) (slice (i + 1) n l)) (adds_stop (F (slice (i + 1) n l)) z one_more)
-
-  pub run_end : {O₁ : List ℕ} {written i : ℕ} → n ≤ i → SoFar O₁ written i → Adds O used room O₁ (record { used = written; stopped = false }) (F (take n l))
-  run_end {O₁} {written} {i} h s =
-      let e : take i (take n l) ≡ take n l = take_all i (take n l) (simp length-take (omega arith)) in rw e at s
+  pub run_stop : i < length l → length O₁ ≡ length O → Lacks O₁ n (F (get_or l i 0 ∷ [])) → Lacks O used (p ++ F l)
+  run_stop h e t =
+      let w : List ℕ = get_or l i 0 ∷ [] in
+      let all : l ≡ (take i l ++ w) ++ drop (suc i) l = sym (take-append-drop (suc i) l) ∙ ap (λ (z : List ℕ). z ++ drop (suc i) l) (take-suc l i 0 h) in
+      let parts : p ++ F l ≡ ((p ++ F (take i l)) ++ F w) ++ F (drop (suc i) l) =
+      ap (λ (z : List ℕ). p ++ F z) all ∙ ap (λ (z : List ℕ). p ++ z) (joins (take i l ++ w) (drop (suc i) l) ∙ ap (λ (z : List ℕ). z ++ F (drop (suc i) l)) (joins (take i l) w))
+      ∙ sym (append_assoc p (F (take i l) ++ F w) (F (drop (suc i) l))) ∙ ap (λ (z : List ℕ). z ++ F (drop (suc i) l)) (sym (append_assoc p (F (take i l)) (F w))) in
+      rw parts (lacks_first O used ((p ++ F (take i l)) ++ F w) (F (drop (suc i) l)) (lacks_then (p ++ F (take i l)) (F w) e s t))
 
 -- A head with its arguments.
-arguments_of : (T M : Bytes) (w : ℕ) (g : List ℕ) → w % 16 ≡ 11 → whole (token T M) g w ≡ w ∷ take (w / 16 % 64) g
-arguments_of T M w g e = rw (other_word T M w (λ q. omega arith), e)
-
-pub function_whole : (T M : Bytes) (w n : ℕ) (S : List ℕ) → w % 16 ≡ 11 → whole (token T M) (take n S) w ≡ (w ∷ []) ++ take (min (w / 16 % 64) n) S
-function_whole T M w n S e = arguments_of T M w (take n S) e ∙ ap (w ∷◌) (twice (w / 16 % 64) n S)
+pub whole_is : (T M : Bytes) (g : List ℕ) (w : ℕ) → whole (token T M) g w ≡ w ∷ take (behind (token T M w)) g
+whole_is T M g w = ap (w ∷◌) (of (token T M w))
   where
-    twice : (m n : ℕ) (l : List ℕ) → take m (take n l) ≡ take (min m n) l
-    twice zero n l = let z : min 0 n ≡ 0 = omega arith in rw z
-    twice (suc m) zero l = let z : min (suc m) 0 ≡ 0 = omega arith in rw z
-    twice (suc m) (suc n) [] = let z : min (suc m) (suc n) ≡ suc (min m n) = omega arith in rw z
-    twice (suc m) (suc n) (x ∷ l) = let z : min (suc m) (suc n) ≡ suc (min m n) = omega arith in rw z (ap (x ∷◌) (twice m n l))
+    of : (t : Token) → cond (eqb (kind t) 11) (take (count t) g) [] ≡ take (behind t) g
+    of (var_token x) = refl
+    of (sign k n s) = by_cases (eqb k 11) (λ t. rw t) (λ f. rw f)
 
-pub other_whole : (T M : Bytes) (w : ℕ) (g : List ℕ) → (w % 16 ≡ 11 → ⊥) → whole (token T M) g w ≡ w ∷ []
-other_whole T M w g e = rw (kind_is T M w, ne_eqb (w % 16) 11 e)
+module _ (T M : Bytes) (g : List ℕ) (w : ℕ) where
+  abbrev term : List ℕ
+  term = whole (token T M) g w
+
+  pub head_lacks : (O : List ℕ) (used : ℕ) → Lacks O used (w ∷ []) → Lacks O used term
+  head_lacks O used h = subst (λ (z : List ℕ). Lacks O used z) (sym (whole_is T M g w)) (lacks_first O used (w ∷ []) (take (behind (token T M w)) g) h)
+
+  module _ {n m : ℕ} (e : n ≡ behind (token T M w)) (f : m ≡ min n (length g)) where
+    same_term : (w ∷ []) ++ take m g ≡ term
+    same_term = rw (f, take_min n g, e) (sym (whole_is T M g w))
+
+    pub term_lacks : (O : List ℕ) (used : ℕ) → Lacks O used ((w ∷ []) ++ take m g) → Lacks O used term
+    term_lacks O used = subst (λ (z : List ℕ). Lacks O used z) same_term
 
 -- What a word becomes.
 module _ (T M : Bytes) (g prefix heads : List ℕ) (w : ℕ) where
   pub variable_becomes : w % 16 ≡ 12 → put_in (token T M) g prefix heads w ≡ whole (token T M) g (pick w (map (λ b. binds (spell T M w) (token T M b)) prefix) heads)
   variable_becomes e = rw (variable_word T M w e)
 
-  pub other_becomes : (w % 16 ≡ 12 → ⊥) → put_in (token T M) g prefix heads w ≡ w ∷ []
-  other_becomes e = rw (other_word T M w e)
+-- The head that a variable belongs to: one more entry at the end decides, or what is before it does.
+pick_last : (a : ℕ) (bs : List Bool) (hs : List ℕ) (b : Bool) (h : ℕ) → length bs ≡ length hs → pick a (bs ++ (b ∷ [])) (hs ++ (h ∷ [])) ≡ cond b h (pick a bs hs)
+unfolding pick
+pick_last a [] [] b h e = refl
+pick_last a [] (x ∷ hs) b h e = absurd (omega arith)
+pick_last a (c ∷ bs) [] b h e = absurd (omega arith)
+pick_last a (c ∷ bs) (x ∷ hs) b h e = pick_last (cond c x a) bs hs b h (omega arith)
 
--- The head that a variable belongs to.
-module _ (t : ℕ → Bool) (P H : List ℕ) (used : ℕ) (sizes : (length P ≡ house.weight) × (length H ≡ house.weight)) (all : used ≤ house.weight) where
-  abbrev pub picked : ℕ → ℕ → ℕ
-  picked best i = pick best (map t (slice i used P)) (slice i used H)
+module _ (t : ℕ → Bool) (P H : List ℕ) (w : ℕ) where
+  abbrev pub picked : ℕ → ℕ
+  picked i = pick w (map t (take i P)) (take i H)
 
-  pub pick_on : (best : ℕ) {b i : ℕ} {q : Bool} → i < used → q ≡ t (get_or P i 0) → b ≡ cond q (get_or H i 0) best → picked b (i + 1) ≡ picked best i
-  unfolding pick
-  pick_on best {b} {i} h e k =
-      sym (rw (slice_one i used P h (omega (arith, sizes.0)), slice_one i used H h (omega (arith, sizes.1)), k, e))
+  pick_more : (i : ℕ) {b : Bool} → length H ≡ length P → i < length P → b ≡ t (get_or P i 0) → picked (i + 1) ≡ cond b (get_or H i 0) (picked i)
+  pick_more i e h q =
+      rw (add-one i, take-suc P i 0 h, take-suc H i 0 (omega arith), map-append t (take i P) (get_or P i 0 ∷ []), q)
+      (pick_last w (map t (take i P)) (take i H) (t (get_or P i 0)) (get_or H i 0) (simp (length-map, length-take) (omega arith)))
 
-  pub pick_end : (best : ℕ) {i : ℕ} → used ≤ i → picked best i ≡ best
-  unfolding pick
-  pick_end best {i} h =
-      let short : length (take used P) ≤ i = simp length-take (omega arith) in
-      ap (λ (l : List ℕ). pick best (map t l) (slice i used H)) (drop_of_length-le (take used P) short)
+  module _ {i : ℕ} {b : Bool} (e : length H ≡ length P) (some : 0 < i) (h : i ≤ length P) (q : b ≡ t (get_or P (i - 1) 0)) where
+    before : picked i ≡ cond b (get_or H (i - 1) 0) (picked (i - 1))
+    before = ap picked (one_up i some) ∙ pick_more (i - 1) e (omega arith) q
+      where
+        one_up : (i : ℕ) → 0 < i → i ≡ i - 1 + 1
+        one_up i s = omega arith
 
--- What stays.
-module _ (O : List ℕ) (n w : ℕ) (size : length O ≡ house.weight) (room : n < house.weight) where
-  stays_put : stays (token [] [] w) ≡ true → Keeps O n (w ∷ []) (set O n w) (n + 1)
-  unfolding keep
-  stays_put e = record {
-    size = length-set O n w ∙ size;
-    few = omega arith;
-    words = rw (e, add-one n) (take-suc-set O n w (omega arith));
-  }
+    pub pick_here : b ≡ true → get_or H (i - 1) 0 ≡ picked i
+    pick_here z = sym (before ∙ rw z)
 
-  pub block_stays : w % 16 ≡ 8 → Keeps O n (w ∷ []) (set O n w) (n + 1)
-  block_stays e = stays_put (rw (other_word [] [] w (λ q. omega arith), e))
+    pub pick_before : b ≡ false → picked (i - 1) ≡ picked i
+    pick_before z = sym (before ∙ rw z)
 
-  pub variable_stays : w % 16 ≡ 12 → Keeps O n (w ∷ []) (set O n w) (n + 1)
-  variable_stays e = stays_put (rw (variable_word [] [] w e))
+  pub pick_all : length H ≡ length P → picked (length P) ≡ pick w (map t P) H
+  pick_all e = ap₂ (λ (a : List ℕ) (b : List ℕ). pick w (map t a) b) (take_all (length P) P (omega arith)) (take_all (length P) H (omega arith))
 
-  pub no_more_stays : (w % 16 ≡ 8 → ⊥) → (w % 16 ≡ 12 → ⊥) → Keeps O n (w ∷ []) O n
-  unfolding keep
-  no_more_stays e k = record {
-    size = size;
-    few = omega arith;
-    words = rw (other_word [] [] w k, ne_eqb (w % 16) 8 e) (sym (append-nil (take n O)));
-  }
+-- What stays, as far as i.
+abbrev stay : ℕ → Bool
+stay w = stays (token [] [] w)
 
-pub keeps_none : (O : List ℕ) → length O ≡ house.weight → Keeps O 0 [] O 0
+pub keeps_none : (H O : List ℕ) → Keeps (take 0 H) O 0
 unfolding keep
-keeps_none O e = record { size = e; few = omega arith; words = refl }
+keeps_none H O = record { few = omega arith; words = refl }
 
-pub keeps_both : {O O₁ O₂ a b : List ℕ} {n m r : ℕ} → Keeps O n a O₁ m → Keeps O₁ m b O₂ r → Keeps O n (a ++ b) O₂ r
-keeps_both {O} {O₁} {O₂} {a} {b} {n} {m} {r} p q = record {
-  size = q.size;
-  few = omega (arith, p.few, q.few, length-append a b);
-  words = q.words ∙ rw (p.words, keep_append (λ w. stays (token [] [] w)) a b) (append_assoc (take n O) _ _);
-}
+module _ (H O : List ℕ) (i n : ℕ) (k : Keeps (take i H) O n) (h : i < length H) where
+  more_kept : keep stay (take (i + 1) H) ≡ keep stay (take i H) ++ cond (stay (get_or H i 0)) (get_or H i 0 ∷ []) []
+  unfolding keep
+  more_kept = rw (add-one i, take-suc H i 0 h) (keep_append stay (take i H) (get_or H i 0 ∷ []))
+
+  pub one_stays : {b : Bool} → length H ≤ length O → b ≡ stay (get_or H i 0) → b ≡ true → Keeps (take (i + 1) H) (set O n (get_or H i 0)) (n + 1)
+  one_stays f e t = record {
+    few = simp length-take (omega (arith, k.few, length-take i H));
+    words = rw (more_kept, ← e, t, add-one n, take-suc-set O n (get_or H i 0) (omega (arith, k.few, length-take i H)), k.words) refl;
+  }
+
+  pub one_goes : {b : Bool} → b ≡ stay (get_or H i 0) → b ≡ false → Keeps (take (i + 1) H) O n
+  one_goes e t = record {
+    few = simp length-take (omega (arith, k.few, length-take i H));
+    words = k.words ∙ sym (rw (more_kept, ← e, t) (append-nil (keep stay (take i H))));
+  }
 
 -- what is written for one word, and for words one behind another
 module _ (d : ℕ → Token) (g prefix heads : List ℕ) where
@@ -192,7 +175,3 @@ module _ (d : ℕ → Token) (g prefix heads : List ℕ) where
 
   pub filled_joins : (a b : List ℕ) → filled d g prefix heads (a ++ b) ≡ filled d g prefix heads a ++ filled d g prefix heads b
   filled_joins a b = flat_append (put_in d g prefix heads) a b
-
-  pub filled_none : filled d g prefix heads [] ≡ []
-  unfolding flat_map
-  filled_none = refl

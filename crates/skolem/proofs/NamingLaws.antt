@@ -1,6 +1,5 @@
 -- A name is a letter, `#` and at most five digits; the word of its head points at it, and whatever is written behind it leaves it as it is.
 use mathlib.Core.Path.{◌≡◌, refl, sym, ap, ◌∙◌}
-use mathlib.Core.Bool.{true, false, true≢false}
 use mathlib.Core.List.{List, [], ◌∷◌}
 use Prim.Native.Nat.{ℕ, zero, suc, ◌+◌, ◌-◌, ◌*◌, ◌/◌, ◌%◌, ◌≤◌, ◌<◌}
 use native.Mathlib.Omega.{arith}
@@ -9,13 +8,12 @@ use lib.Dec.{ltb}
 use lib.ListN.{length, take, drop, length-append}
 use lib.Seq.{take-nil, take_at, drop_at, take-take, drop-drop, length-take-le}
 use Rattle.definitions.specs.Bytes.{Bytes, digits, decimal}
-use Rattle.definitions.specs.Syntax.{Name}
 use Rattle.definitions.proofs.Laws.Bools.{by_cases}
 use Rattle.text.specs.Words.{spell, kind_of_word, count_of, size_of, start_of}
 use Rattle.writer.specs.Writer.{Wrote, Puts}
 use Rattle.writer.specs.PutLaws.{wrote_both}
 use Rattle.skolem.specs.Counting.{last_number}
-use Rattle.skolem.specs.Naming.{longest, far, Grown, Names}
+use Rattle.skolem.specs.Naming.{longest, far, Grown, IsNamed}
 
 -- At most five digits: one more for ten times as many numbers.
 abbrev DigitsBelow : ℕ → ℕ → Type 0
@@ -68,16 +66,6 @@ grown_both {M} {M₁} {M₂} {at} {n} {end} p q = record {
     further : drop end M₁ ≡ drop end M
     further = ap (λ (k : ℕ). drop k M₁) (sym split) ∙ sym (drop-drop (end - n) n M₁) ∙ ap (drop (end - n)) p.back ∙ drop-drop (end - n) n M ∙ ap (λ (k : ℕ). drop k M) split
 
--- A name that is not made.
-pub no_name : {M : Bytes} {at : ℕ} {s : Name} {number head : ℕ} → (at + longest ≤ length M → at < far → number ≤ last_number → ⊥)
-    → Names M at s number head M (record { word = head; at = at; fits = false })
-no_name {M} {at} h = record {
-  grown = grown_none M at;
-  short = omega arith;
-  made = λ e. absurd (true≢false (sym e));
-  fits = λ a b c. absurd (h a b c);
-}
-
 -- the word of a head with a name of that size at that place
 abbrev pub with_name : ℕ → ℕ → ℕ → ℕ
 with_name head size at = head % 1024 + 1024 + 2048 * size + 131072 * at
@@ -102,29 +90,32 @@ module _ (head size at : ℕ) (short : size < 64) (near : at < far) where
   word_spelled T M = rw (eq-eqb ((with_name head size at) / 1024 % 2) 1 word_made, word_size, word_start)
 
 -- the three pieces of a name
+pub record Written (M : Bytes) (at letter number : ℕ) (M' : Bytes) (end : ℕ) : Type 0 where
+  pub name : Wrote M at (letter ∷ 35 ∷ decimal number) M' end
+  pub short : end ≤ at + longest
+
 pub pieces : {M M₁ M₂ M₃ : Bytes} {at n₁ n₂ n₃ letter number : ℕ} → Puts M at (letter ∷ []) M₁ n₁ → Puts M₁ n₁ (35 ∷ []) M₂ n₂ → Puts M₂ n₂ (decimal number) M₃ n₃
-    → at + longest ≤ length M → number ≤ last_number → Wrote M at (letter ∷ 35 ∷ decimal number) M₃ n₃
+    → at + longest ≤ length M → number ≤ last_number → Written M at letter number M₃ n₃
 pieces {M} {M₁} {M₂} {M₃} {at} {n₁} {n₂} {n₃} {letter} {number} p q r h s =
     let a : Wrote M at (letter ∷ []) M₁ n₁ = p.room (omega arith) in
     let b : Wrote M₁ n₁ (35 ∷ []) M₂ n₂ = q.room (omega (arith, a.ends, a.size)) in
-    let d : Wrote M₂ n₂ (decimal number) M₃ n₃ = r.room (omega (arith, a.ends, a.size, b.ends, b.size, decimal_short number s)) in
-    wrote_both (wrote_both a b) d
+    let five = decimal_short number s in
+    let d : Wrote M₂ n₂ (decimal number) M₃ n₃ = r.room (omega (arith, a.ends, a.size, b.ends, b.size)) in
+    record { name = wrote_both (wrote_both a b) d; short = omega (arith, a.ends, b.ends, d.ends) }
 
-pub name_made : {M M' : Bytes} {at end letter number head : ℕ} → at + longest ≤ length M → at < far → number ≤ last_number → Wrote M at (letter ∷ 35 ∷ decimal number) M' end
-    → Names M at (letter ∷ 35 ∷ decimal number) number head M' (record { word = with_name head (end - at) at; at = end; fits = true })
-name_made {M} {M'} {at} {end} {letter} {number} {head} h near s w =
+pub name_made : {M M' : Bytes} {at end letter number head : ℕ} → at + longest ≤ length M → at < far → number ≤ last_number → Written M at letter number M' end
+    → IsNamed M at (letter ∷ 35 ∷ decimal number) number head M' (record { word = with_name head (end - at) at; at = end })
+name_made {M} {M'} {at} {end} {letter} {number} {head} h near s r =
+    let w = r.name in
     let size : end - at ≡ length (letter ∷ 35 ∷ decimal number) = omega (arith, w.ends) in
-    let five = decimal_short number s in record {
+    let small : end - at < 64 = omega (arith, r.short) in record {
       grown = grown_wrote (omega arith) w;
-      short = omega (arith, w.ends);
-      made = λ e. (
-        s,
-        word_kind head (end - at) at (omega arith) near,
-        word_count head (end - at) at (omega arith) near,
-        (λ T M'' k. word_spelled head (end - at) at (omega arith) near T M'' ∙ take_drop (end - at) at M'' ∙ ap (drop at) (
-            ap (λ (z : ℕ). take z M'') (back at end (omega (arith, w.ends))) ∙ k ∙ w.front) ∙ drop_at (take at M) (letter ∷ 35 ∷ decimal number) at (length-take-le at M (omega arith))),
-      );
-      fits = λ a b c. refl;
+      short = r.short;
+      within = s;
+      kind = word_kind head (end - at) at small near;
+      count = word_count head (end - at) at small near;
+      spelled = λ T M'' k. word_spelled head (end - at) at small near T M'' ∙ take_drop (end - at) at M'' ∙ ap (drop at) (
+          ap (λ (z : ℕ). take z M'') (back at end (omega (arith, w.ends))) ∙ k ∙ w.front) ∙ drop_at (take at M) (letter ∷ 35 ∷ decimal number) at (length-take-le at M (omega arith));
     }
   where
     back : (at end : ℕ) → at ≤ end → at + (end - at) ≡ end

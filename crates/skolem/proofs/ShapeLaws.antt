@@ -1,6 +1,8 @@
 -- The shape of a formula and the `#` in its symbols, read off its tokens; its blocks and its matrix as a cut of them.
+use Rattle.std.specs.List.{list_any}
+use Rattle.std.proofs.lemmas.List.Folds.{list_any-append}
 use mathlib.Core.Path.{◌≡◌, refl, sym, ap, ◌∙◌}
-use mathlib.Core.Bool.{Bool, true, false, not, ◌&&◌, ◌||◌, or-false, or_assoc}
+use mathlib.Core.Bool.{Bool, true, false, not, ◌&&◌, ◌||◌, or-false}
 use mathlib.Core.List.{List, [], ◌∷◌, ◌++◌, map, append_assoc}
 use Prim.Native.Nat.{ℕ, suc, ◌+◌}
 use native.Mathlib.Omega.{arith}
@@ -14,15 +16,10 @@ use Rattle.definitions.proofs.Laws.Bools.{not_or}
 use Rattle.text.specs.Words.{Token, var_token, sign, op_kind, block_kind, term_code, terms_code, code, kind}
 use Rattle.text.specs.Prefixes.{prefix_code}
 use Rattle.skolem.specs.declared.shape.Shape.TheVariants.{Skolem, Prenex, Other}
-use Rattle.skolem.specs.Shape.{any, between, blocks_size, hashed, Shaped}
+use Rattle.skolem.specs.Shape.{between, blocks_size, hashed, Shaped}
 
-pub any_append : {A : Type 0} (p : A → Bool) (a b : List A) → any p (a ++ b) ≡ (any p a || any p b)
-unfolding any
-any_append p [] b = refl
-any_append p (x ∷ a) b = rw (any_append p a b) (sym (or_assoc (p x) (any p a) (any p b)))
-
-none_append : {A : Type 0} (p : A → Bool) (a b : List A) → any p a ≡ false → any p b ≡ false → any p (a ++ b) ≡ false
-none_append p a b h k = any_append p a b ∙ rw (h, k)
+none_append : {A : Type 0} (p : A → Bool) (a b : List A) → list_any p a ≡ false → list_any p b ≡ false → list_any p (a ++ b) ≡ false
+none_append p a b h k = list_any-append p a b ∙ rw (h, k)
 
 -- tokens of blocks, and of exists blocks
 abbrev pub block_token : Token → Bool
@@ -33,45 +30,43 @@ exists_token t = between 9 9 (kind t)
 
 -- No block among the tokens of terms; in a matrix exactly where the formula has one.
 mutual
-  unfolding term_code terms_code any
+  unfolding term_code terms_code
 
-  term_plain : (t : Term) → any block_token (term_code t) ≡ false
+  term_plain : (t : Term) → list_any block_token (term_code t) ≡ false
   term_plain (var x) = refl
   term_plain (con c) = refl
   term_plain (app f ts) = terms_plain ts
 
-  terms_plain : (ts : Terms) → any block_token (terms_code ts) ≡ false
+  terms_plain : (ts : Terms) → list_any block_token (terms_code ts) ≡ false
   terms_plain nil = refl
   terms_plain (cons t ts) = none_append block_token (term_code t) (terms_code ts) (term_plain t) (terms_plain ts)
 
-op_plain : (o : Op) (l : List Token) → any block_token (sign (op_kind o) 0 [] ∷ l) ≡ any block_token l
-unfolding any
+op_plain : (o : Op) (l : List Token) → list_any block_token (sign (op_kind o) 0 [] ∷ l) ≡ list_any block_token l
 op_plain and l = refl
 op_plain or l = refl
 op_plain imp l = refl
 op_plain iff l = refl
 
-no_block_read : (f : Formula) → no_block f ≡ not (any block_token (code f))
-unfolding no_block code any
+no_block_read : (f : Formula) → no_block f ≡ not (list_any block_token (code f))
+unfolding no_block code
 no_block_read top = refl
 no_block_read bot = refl
 no_block_read (pred p ts) = rw (terms_plain ts)
 no_block_read (eq t u) = rw (none_append block_token (term_code t) (term_code u) (term_plain t) (term_plain u))
 no_block_read (neg f) = no_block_read f
 no_block_read (bin o f g) =
-    rw (op_plain o (code f ++ code g), any_append block_token (code f) (code g), no_block_read f, no_block_read g) (sym (not_or (any block_token (code f)) (any block_token (code g))))
+    rw (op_plain o (code f ++ code g), list_any-append block_token (code f) (code g), no_block_read f, no_block_read g) (sym (not_or (list_any block_token (code f)) (list_any block_token (code g))))
 no_block_read (blk all vs f) = refl
 no_block_read (blk ex vs f) = refl
 
-vars_plain : (vs : List Name) → any exists_token (map var_token vs) ≡ false
-unfolding any
+vars_plain : (vs : List Name) → list_any exists_token (map var_token vs) ≡ false
 vars_plain [] = refl
 vars_plain (v ∷ vs) = vars_plain vs
 
-all_only_read : (p : Prefix) → all_only p ≡ not (any exists_token (prefix_code p))
-unfolding all_only prefix_code any
+all_only_read : (p : Prefix) → all_only p ≡ not (list_any exists_token (prefix_code p))
+unfolding all_only prefix_code
 all_only_read plain = refl
-all_only_read (more all vs p) = rw (any_append exists_token (map var_token vs) (prefix_code p), vars_plain vs) (all_only_read p)
+all_only_read (more all vs p) = rw (list_any-append exists_token (map var_token vs) (prefix_code p), vars_plain vs) (all_only_read p)
 all_only_read (more ex vs p) = refl
 
 -- The cut between the blocks and the matrix.
@@ -117,10 +112,10 @@ blocks_size_read (blk q vs f) =
 -- The shape.
 module _ (f : Formula) where
   abbrev matrix_blocks : Bool
-  matrix_blocks = any block_token (code (parted f).matrix)
+  matrix_blocks = list_any block_token (code (parted f).matrix)
 
   abbrev prefix_exists : Bool
-  prefix_exists = any exists_token (prefix_code (parted f).prefix)
+  prefix_exists = list_any exists_token (prefix_code (parted f).prefix)
 
   prenex_read : is_prenex_form f ≡ not matrix_blocks
   unfolding is_prenex_form
@@ -140,10 +135,10 @@ module _ (f : Formula) where
   skolem_shape h k = record { prenex = prenex_read ∙ rw h; skolem = skolem_read ∙ rw (h, k) }
 
 -- `#` in a constant or a function.
-every_not : (l : List Name) → every (λ n. not (holds_hash n)) l ≡ not (any holds_hash l)
-unfolding every any
+every_not : (l : List Name) → every (λ n. not (holds_hash n)) l ≡ not (list_any holds_hash l)
+unfolding every
 every_not [] = refl
-every_not (n ∷ l) = rw (every_not l) (sym (not_or (holds_hash n) (any holds_hash l)))
+every_not (n ∷ l) = rw (every_not l) (sym (not_or (holds_hash n) (list_any holds_hash l)))
 
 four : (a b c d : Bool) → ((a || b) || (c || d)) ≡ ((a || c) || (b || d))
 four true b c d = refl
@@ -153,10 +148,10 @@ four false false true d = refl
 four false false false d = refl
 
 -- what two lists of tokens have, where each has what its symbols have
-both_hashed : (a b : List Token) (cs ds fs gs : List Name) → any hashed a ≡ (any holds_hash cs || any holds_hash fs) → any hashed b ≡ (any holds_hash ds || any holds_hash gs)
-    → any hashed (a ++ b) ≡ (any holds_hash (cs ++ ds) || any holds_hash (fs ++ gs))
+both_hashed : (a b : List Token) (cs ds fs gs : List Name) → list_any hashed a ≡ (list_any holds_hash cs || list_any holds_hash fs) → list_any hashed b ≡ (list_any holds_hash ds || list_any holds_hash gs)
+    → list_any hashed (a ++ b) ≡ (list_any holds_hash (cs ++ ds) || list_any holds_hash (fs ++ gs))
 both_hashed a b cs ds fs gs p q =
-    any_append hashed a b ∙ rw (p, q, any_append holds_hash cs ds, any_append holds_hash fs gs) (four (any holds_hash cs) (any holds_hash fs) (any holds_hash ds) (any holds_hash gs))
+    list_any-append hashed a b ∙ rw (p, q, list_any-append holds_hash cs ds, list_any-append holds_hash fs gs) (four (list_any holds_hash cs) (list_any holds_hash fs) (list_any holds_hash ds) (list_any holds_hash gs))
 
 swap : (a b c : Bool) → (a || (b || c)) ≡ (b || (a || c))
 swap true true c = refl
@@ -164,32 +159,30 @@ swap true false c = refl
 swap false b c = refl
 
 mutual
-  unfolding term_code terms_code term_syms terms_syms any
+  unfolding term_code terms_code term_syms terms_syms
 
-  term_hashed : (t : Term) → any hashed (term_code t) ≡ (any holds_hash (term_syms constants t) || any holds_hash (term_syms functions t))
+  term_hashed : (t : Term) → list_any hashed (term_code t) ≡ (list_any holds_hash (term_syms constants t) || list_any holds_hash (term_syms functions t))
   term_hashed (var x) = refl
   term_hashed (con c) = sym (or-false (holds_hash c || false))
-  term_hashed (app f ts) = rw (terms_hashed ts) (swap (holds_hash f) (any holds_hash (terms_syms constants ts)) (any holds_hash (terms_syms functions ts)))
+  term_hashed (app f ts) = rw (terms_hashed ts) (swap (holds_hash f) (list_any holds_hash (terms_syms constants ts)) (list_any holds_hash (terms_syms functions ts)))
 
-  terms_hashed : (ts : Terms) → any hashed (terms_code ts) ≡ (any holds_hash (terms_syms constants ts) || any holds_hash (terms_syms functions ts))
+  terms_hashed : (ts : Terms) → list_any hashed (terms_code ts) ≡ (list_any holds_hash (terms_syms constants ts) || list_any holds_hash (terms_syms functions ts))
   terms_hashed nil = refl
   terms_hashed (cons t ts) =
       both_hashed (term_code t) (terms_code ts) (term_syms constants t) (terms_syms constants ts) (term_syms functions t) (terms_syms functions ts) (term_hashed t) (terms_hashed ts)
 
-op_hashed : (o : Op) (l : List Token) → any hashed (sign (op_kind o) 0 [] ∷ l) ≡ any hashed l
-unfolding any
+op_hashed : (o : Op) (l : List Token) → list_any hashed (sign (op_kind o) 0 [] ∷ l) ≡ list_any hashed l
 op_hashed and l = refl
 op_hashed or l = refl
 op_hashed imp l = refl
 op_hashed iff l = refl
 
-vars_hashed : (vs : List Name) (l : List Token) → any hashed (map var_token vs ++ l) ≡ any hashed l
-unfolding any
+vars_hashed : (vs : List Name) (l : List Token) → list_any hashed (map var_token vs ++ l) ≡ list_any hashed l
 vars_hashed [] l = refl
 vars_hashed (v ∷ vs) l = vars_hashed vs l
 
-formula_hashed : (f : Formula) → any hashed (code f) ≡ (any holds_hash (syms constants f) || any holds_hash (syms functions f))
-unfolding code syms any
+formula_hashed : (f : Formula) → list_any hashed (code f) ≡ (list_any holds_hash (syms constants f) || list_any holds_hash (syms functions f))
+unfolding code syms
 formula_hashed top = refl
 formula_hashed bot = refl
 formula_hashed (pred p ts) = terms_hashed ts
@@ -199,10 +192,10 @@ formula_hashed (bin o f g) = op_hashed o (code f ++ code g) ∙ both_hashed (cod
 formula_hashed (blk all vs f) = vars_hashed vs (code f) ∙ formula_hashed f
 formula_hashed (blk ex vs f) = vars_hashed vs (code f) ∙ formula_hashed f
 
-pub hash_read : (f : Formula) → any hashed (code f) ≡ not (hash_free f)
+pub hash_read : (f : Formula) → list_any hashed (code f) ≡ not (hash_free f)
 unfolding hash_free
 hash_read f =
-    formula_hashed f ∙ sym (rw (every_not (syms constants f), every_not (syms functions f)) (turned (any holds_hash (syms constants f)) (any holds_hash (syms functions f))))
+    formula_hashed f ∙ sym (rw (every_not (syms constants f), every_not (syms functions f)) (turned (list_any holds_hash (syms constants f)) (list_any holds_hash (syms functions f))))
   where
     turned : (a b : Bool) → not (not a && not b) ≡ (a || b)
     turned true b = refl

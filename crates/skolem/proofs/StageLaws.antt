@@ -16,19 +16,16 @@ use Rattle.definitions.specs.Prenex.{Prefix, Prenex, close, no_block}
 use Rattle.definitions.specs.Skolem as form
 use Rattle.definitions.specs.Skolem.{binders, skolemise, skolem_formula}
 use Rattle.definitions.specs.Convert.{too_large}
-use Rattle.definitions.proofs.Laws.Bools.{by_cases, clash}
+use Rattle.definitions.proofs.Laws.Bools.{by_cases}
 use Rattle.text.specs.Words.{Token, token, tokens, code}
 use Rattle.text.specs.WordLaws.{other_word}
 use Rattle.text.specs.Prefixes.{names, prefix_code, Firm}
 use Rattle.text.specs.PrefixLaws.{prefix_names}
 use Rattle.skolem.specs.declared.counters.Counters.{Counters}
-use Rattle.skolem.specs.declared.heads.AllNamed.{AllNamed}
-use Rattle.skolem.specs.declared.matrix.Went.{Went}
 use Rattle.skolem.specs.Counting.{counts_of}
 use Rattle.skolem.specs.Pass.{most, gather, Survey, survey, blank_word, blank_token, named, stays, keep, filled, reach}
-use Rattle.skolem.specs.Steps.{Scope, Surveys}
-use Rattle.skolem.specs.Naming.{NamesAll}
-use Rattle.skolem.specs.Filling.{width, Added, done, over, wide, Adds, Keeps}
+use Rattle.skolem.specs.Naming.{AreNamed}
+use Rattle.skolem.specs.Filling.{width, Added, Lacks, Keeps}
 use Rattle.skolem.proofs.Found.{Stands}
 use Rattle.skolem.proofs.Whole.{surveyed, all_heads, passes, close_weight, close_widest}
 use Rattle.skolem.proofs.Maps.{gather_map, survey_map, keep_map, filled_map}
@@ -71,11 +68,11 @@ module _ (p : Prefix) (m : Formula) where
   unfolding too_large
   heavy_by_width h = rw (lt-ltb house.arguments (widest (close p m)) (omega (arith, close_widest p m))) (or-true (ltb house.weight (weight (close p m))))
 
-module _ (T M : Bytes) (used : ℕ) (k : Counters) (P W : List ℕ) (bound size : ℕ) (p : Prenex)
-    (blocks : Firm T M used (take bound P) (prefix_code p.prefix)) (body : Firm T M used (take size W) (code p.matrix)) (flat : no_block p.matrix ≡ true)
-    {S₁ : List ℕ} {n₁ : ℕ} (free : Scope S₁ n₁ (gather (token T M) (names (tokens T M (take bound P))) [] (take size W)))
-    {H₁ S₂ : List ℕ} {n₂ : ℕ} (around : Surveys H₁ bound S₂ n₂ (survey (token T M) blank_word 0 false (take n₁ S₁) (take bound P)))
-    {H₂ : List ℕ} {M' : Bytes} {a : AllNamed} (titles : NamesAll H₁ bound M used k H₂ M' a) (fits : a.fits ≡ true) where
+module _ (T M : Bytes) (used : ℕ) (k : Counters) (P W : List ℕ) (p : Prenex)
+    (blocks : Firm T M used P (prefix_code p.prefix)) (body : Firm T M used W (code p.matrix)) (flat : no_block p.matrix ≡ true)
+    {g : List ℕ} (few : length g ≤ most) (free : g ≡ gather (token T M) (names (tokens T M P)) [] W)
+    {H₁ g' : List ℕ} (around : survey (token T M) blank_word 0 false g P ≡ record { heads = H₁; scope = g' })
+    {H : List ℕ} {M' : Bytes} {end : ℕ} {k' : Counters} (titles : AreNamed H₁ M used k H M' end k') where
   abbrev s : form.Skolemised
   s = skolemise p (counts_of k)
 
@@ -88,88 +85,77 @@ module _ (T M : Bytes) (used : ℕ) (k : Counters) (P W : List ℕ) (bound size 
   kept : take used M' ≡ take used M
   kept = titles.grown.front
 
-  like_prefix : map e (take bound P) ≡ map d (take bound P)
+  like_prefix : map e P ≡ map d P
   like_prefix = blocks M' kept ∙ sym (blocks M refl)
 
-  like_matrix : map e (take size W) ≡ map d (take size W)
+  like_matrix : map e W ≡ map d W
   like_matrix = body M' kept ∙ sym (body M refl)
 
   -- the free variables
   abbrev free_tokens : List Token
   free_tokens = gather (λ t. t) (binders p.prefix) [] (code p.matrix)
 
-  free_read : (h : ℕ → Token) → map h (take size W) ≡ map d (take size W) → map h (take n₁ S₁) ≡ free_tokens
+  free_read : (h : ℕ → Token) → map h W ≡ map d W → map h g ≡ free_tokens
   free_read h like =
-      ap (map h) free.words ∙ gather_map d h (names (tokens T M (take bound P))) [] (take size W) refl like
+      ap (map h) free ∙ gather_map d h (names (tokens T M P)) [] W refl like
       ∙ ap₂ (λ (z : List _) (l : List Token). gather (λ t. t) z [] l) (ap names (blocks M refl) ∙ prefix_names p.prefix) (body M refl)
 
   -- the survey
-  survey_read : (map e (survey d blank_word 0 false (take n₁ S₁) (take bound P)).heads ≡ (surveyed p).heads)
-      × (map e (survey d blank_word 0 false (take n₁ S₁) (take bound P)).scope ≡ (surveyed p).scope)
+  survey_read : (map e H₁ ≡ (surveyed p).heads) × (map e g' ≡ (surveyed p).scope)
   survey_read =
-      let h = survey_map d e blank_word (blank_read T M') 0 false (take n₁ S₁) (take bound P) (simp length-take (omega (arith, free.few)))
+      let h = survey_map d e blank_word (blank_read T M') 0 false g P (few)
       (free_read e like_matrix ∙ sym (free_read d refl)) like_prefix in
-      let same : survey (λ t. t) blank_token 0 false (map d (take n₁ S₁)) (map d (take bound P)) ≡ surveyed p =
+      let same : survey (λ t. t) blank_token 0 false (map d g) (map d P) ≡ surveyed p =
       ap₂ (survey (λ t. t) blank_token 0 false) (free_read d refl) (blocks M refl) in
-      (h.0 ∙ ap (λ (z : Survey Token). z.heads) same, h.1 ∙ ap (λ (z : Survey Token). z.scope) same)
+      (rw around at (h.0 ∙ ap (λ (z : Survey Token). z.heads) same), rw around at (h.1 ∙ ap (λ (z : Survey Token). z.scope) same))
 
-  heads_read : map e (take bound H₂) ≡ all_heads p (counts_of k)
-  heads_read = titles.heads fits T M' refl ∙ ap (named (counts_of k)) (ap (map e) around.heads ∙ survey_read.0)
+  heads_read : map e H ≡ all_heads p (counts_of k)
+  heads_read = titles.heads T M' refl ∙ ap (named (counts_of k)) survey_read.0
 
-  scope_read : map e (take n₂ S₂) ≡ (surveyed p).scope
-  scope_read = ap (map e) around.scope.words ∙ survey_read.1
-
-  pub counts_read : counts_of a.counters ≡ s.after
+  pub counts_read : counts_of k' ≡ s.after
   counts_read =
-      titles.counters fits T M' ∙ ap (form_after (counts_of k)) (ap (map e) around.heads ∙ survey_read.0) ∙ (passes p (counts_of k) flat).counts
+      titles.counters T M' ∙ ap (form_after (counts_of k)) survey_read.0 ∙ (passes p (counts_of k) flat).counts
     where
       form_after : form.Counts → List Token → form.Counts
       form_after k l = Rattle.skolem.specs.Pass.drawn_after k l
 
   -- the forall blocks
-  pub blocks_read : {O O' : List ℕ} {r : ℕ} → Keeps O 0 (take bound H₂) O' r → tokens T M' (take r O') ≡ prefix_code s.prefix
+  pub blocks_read : {O' : List ℕ} {r : ℕ} → Keeps H O' r → tokens T M' (take r O') ≡ prefix_code s.prefix
   blocks_read h =
-      ap (map e) (h.words ∙ sym (keep_any T M' (take bound H₂))) ∙ keep_map e (take bound H₂) ∙ ap (keep stays) heads_read ∙ (passes p (counts_of k) flat).blocks
+      ap (map e) (h.words ∙ sym (keep_any T M' H)) ∙ keep_map e H ∙ ap (keep stays) heads_read ∙ (passes p (counts_of k) flat).blocks
 
   -- the matrix
   abbrev out : List ℕ
-  out = filled e (take n₂ S₂) (take bound P) (take bound H₂) (take size W)
+  out = filled e g' P H W
 
   out_stands : Stands (map e out) (code s.matrix)
   out_stands =
       let same : map e out ≡ filled (λ t. t) (surveyed p).scope (prefix_code p.prefix) (all_heads p (counts_of k)) (code p.matrix) =
-      filled_map e (take n₂ S₂) (take bound P) (take bound H₂) (take size W) ∙ rw (scope_read, heads_read, blocks M' kept, body M' kept) in
+      filled_map e g' P H W ∙ rw (survey_read.1, heads_read, blocks M' kept, body M' kept) in
       rw same (passes p (counts_of k) flat).matrix
 
-  narrow_read : reach (code s.matrix) ≤ 32 → map e out ≡ code s.matrix
-  narrow_read h = out_stands.narrow h
-
-  module _ {O O' : List ℕ} {r : ℕ} (h : Keeps O 0 (take bound H₂) O' r) (rooms : r ≤ house.weight) {B B' : List ℕ} {w : Went} (t : Adds B 0 (house.weight - r) B' w out) where
+  module _ {O' : List ℕ} {r : ℕ} (h : Keeps H O' r) (rooms : r ≤ house.weight) (long : length O' ≡ house.weight) (B : List ℕ) (room : length B ≡ house.weight - r) where
     prefix_length : length (prefix_code s.prefix) ≡ r
-    prefix_length = ap length (sym (blocks_read h)) ∙ length-map (take r O') e ∙ length-take r O' ∙ omega (arith, h.size)
+    prefix_length = ap length (sym (blocks_read h)) ∙ length-map (take r O') e ∙ length-take r O' ∙ omega arith
 
-    pub matrix_heavy : w.stopped ≡ true → too_large house (skolem_formula s) ≡ true
-    matrix_heavy z = by_cases (leb (reach (code s.matrix)) 32) (λ n. narrow (narrow_read (leb-true (reach (code s.matrix)) 32 n)) t.added) (λ b. heavy_by_width s.prefix s.matrix (leb-false (reach (code s.matrix)) 32 b))
-      where
-        narrow : map e out ≡ code s.matrix → Added B 0 (house.weight - r) B' w out → too_large house (skolem_formula s) ≡ true
-        narrow q (done f i g) = clash z f
-        narrow q (over f l) = heavy_by_weight s.prefix s.matrix (omega (arith, prefix_length, ap length q, length-map out e))
-        narrow q (wide f l) = heavy_by_width s.prefix s.matrix (omega (arith, ap reach q, width_any T M' out))
+    -- where all of it is narrow enough
+    narrow_read : reach (code s.matrix) ≤ 32 → (map e out ≡ code s.matrix) × (width out ≤ 32)
+    narrow_read n = let q = out_stands.narrow n in (q, omega (arith, ap reach q, width_any T M' out))
 
-    abbrev FitsAll : Type 0
-    FitsAll = (too_large house (skolem_formula s) ≡ false) × (tokens T M' (take w.used B') ≡ code s.matrix)
+    pub matrix_heavy : Lacks B 0 out → too_large house (skolem_formula s) ≡ true
+    matrix_heavy l = by_cases (leb (reach (code s.matrix)) 32)
+        (λ n. let q = narrow_read (leb-true (reach (code s.matrix)) 32 n) in
+        by_cases (leb (length out) (house.weight - r))
+        (λ t. absurd (l (omega (arith, leb-true (length out) (house.weight - r) t)) (omega (arith, q.1))))
+        (λ f. heavy_by_weight s.prefix s.matrix (omega (arith, prefix_length, leb-false (length out) (house.weight - r) f, ap length q.0, length-map out e))))
+        (λ b. heavy_by_width s.prefix s.matrix (leb-false (reach (code s.matrix)) 32 b))
 
-    pub matrix_made : w.stopped ≡ false → FitsAll
-    matrix_made z = whole t.added
-      where
-        whole : Added B 0 (house.weight - r) B' w out → FitsAll
-        whole (over f l) = clash f z
-        whole (wide f l) = clash f z
-        whole (done f i g) =
-            let q : map e out ≡ code s.matrix = by_cases (leb (reach (code s.matrix)) 32)
-            (λ n. narrow_read (leb-true (reach (code s.matrix)) 32 n))
-            (λ b. absurd (omega (arith, out_stands.wide (leb-false (reach (code s.matrix)) 32 b), width_any T M' out))) in
-            let written : length out ≡ w.used = ap length (sym i) ∙ length-take w.used B' ∙ omega (arith, t.fit.size, t.fit.within, t.fit.whole) in (
-              small s.prefix s.matrix (omega (arith, prefix_length, ap length q, length-map out e, t.fit.within)) (omega (arith, ap reach q, width_any T M' out)),
-              ap (map e) i ∙ q,
-            )
+    pub matrix_made : {B' : List ℕ} {n : ℕ} → length B' ≡ length B → Added B 0 B' n out → (too_large house (skolem_formula s) ≡ false) × (tokens T M' (take n B') ≡ code s.matrix)
+    matrix_made {B'} {n} z t =
+        let q : map e out ≡ code s.matrix = by_cases (leb (reach (code s.matrix)) 32)
+        (λ m. (narrow_read (leb-true (reach (code s.matrix)) 32 m)).0)
+        (λ b. absurd (omega (arith, out_stands.wide (leb-false (reach (code s.matrix)) 32 b), width_any T M' out, t.narrow))) in
+        let written : length out ≡ n = ap length (sym t.words) ∙ length-take n B' ∙ omega (arith, t.fits) in (
+          small s.prefix s.matrix (omega (arith, prefix_length, ap length q, length-map out e, t.fits)) (omega (arith, ap reach q, width_any T M' out, t.narrow)),
+          ap (map e) t.words ∙ q,
+        )

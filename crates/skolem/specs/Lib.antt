@@ -1,7 +1,7 @@
 pub mod Pass
 pub mod Counting
-pub mod Steps
 pub mod Naming
 pub mod Filling
-pub mod Stage
 pub mod Shape
+pub mod Parts
+pub mod Stage

@@ -4,11 +4,10 @@
 -- Over a prenex form's tokens it gives the definitions' `skolemise` (`passes` in proofs/Whole.antt).
 use Rattle.std.specs.Prelude.{Bool, true, false, not, ◌||◌, cond, ℕ, zero, suc, ◌+◌, ◌*◌, max, eqb, ltb, length, take, drop}
 use mathlib.Core.List.{List, [], ◌∷◌, ◌++◌, map, flat_map}
-use Rattle.definitions.specs.Bytes.{same}
 use Rattle.definitions.specs.Syntax.{Name}
 use Rattle.definitions.specs.Names.{mem}
 use Rattle.definitions.specs.Skolem.{Counts, constant_name, function_name}
-use Rattle.text.specs.Words.{Token, var_token, sign, kind, count, name}
+use Rattle.text.specs.Words.{Token, var_token, sign, kind, count, name, same_variable}
 use Rattle.text.specs.Prefixes.{names}
 
 -- A scope of entries is kept up to one more than a function may have arguments: more of them are told apart from 32 alone.
@@ -89,8 +88,7 @@ pick a (b ∷ bs) [] = a
 pick a (b ∷ bs) (h ∷ hs) = pick (cond b h a) bs hs
 
 abbrev pub binds : Name → Token → Bool
-binds x (var_token y) = same x y
-binds x (sign k n s) = false
+binds x t = same_variable x t
 
 abbrev pub is_var : Token → Bool
 is_var (var_token x) = true

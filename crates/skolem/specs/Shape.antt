@@ -1,22 +1,14 @@
 -- What is asked of a rule before the stage: its shape (refusal 4), no `#` in a constant or a function (refusal 5); and its blocks and its
 -- matrix, apart.
-use Rattle.std.specs.Prelude.{◌≡◌, Bool, true, false, ◌&&◌, ◌||◌, cond, List, [], ◌∷◌, ℕ, zero, suc, ◌≤◌, eqb, leb, length, take}
+use Rattle.std.specs.Prelude.{◌≡◌, Bool, true, false, ◌&&◌, ◌||◌, cond, List, [], ◌∷◌, ◌++◌, ℕ, zero, suc, eqb, leb}
 use Rattle.definitions.specs.Bytes.{Bytes}
-use Rattle.definitions.specs.Limits.{house}
 use Rattle.definitions.specs.Syntax.{Formula}
 use Rattle.definitions.specs.Prenex.{parted, is_prenex_form, is_skolem}
 use Rattle.definitions.specs.Skolem.{holds_hash}
-use Rattle.text.specs.Words.{Token, var_token, sign, tokens, kind, count}
-use Rattle.text.specs.Tables.{as_table, Holds}
+use Rattle.text.specs.Words.{Token, var_token, sign, tokens, kind, count, code}
 use Rattle.text.specs.Prefixes.{prefix_code}
 use Rattle.skolem.specs.declared.shape.Shape.{Shape}
 use Rattle.skolem.specs.declared.shape.Shape.TheVariants.{Skolem, Prenex, Other}
-use Rattle.skolem.specs.declared.shape.Halves.{Halves}
-
--- whether one of a list passes a test
-unfoldable pub any : {A : Type 0} → (A → Bool) → List A → Bool
-any p [] = false
-any p (a ∷ l) = p a || any p l
 
 -- a kind between two others
 abbrev pub between : ℕ → ℕ → ℕ → Bool
@@ -48,12 +40,12 @@ pub record Shaped (f : Formula) (r : Shape) : Type 0 where
   pub prenex : is_prenex_form f ≡ prenex_shape r
   pub skolem : is_skolem f ≡ skolem_shape r
 
--- the blocks of a formula as it stands, at the front of S, and its matrix, at the front of X
-pub record Parted (T M : Bytes) (S X : List ℕ) (f : Formula) (r : Halves) : Type 0 where
-  pub prefix_room : r.prefix ≤ house.weight
-  pub blocks : tokens T M (take r.prefix S) ≡ prefix_code (parted f).prefix
-  pub body : Holds T M (as_table X r.matrix) (parted f).matrix
+-- the words B are the blocks of a formula as it stands, and the words X its matrix
+pub record Parted (T M : Bytes) (B X : List ℕ) (f : Formula) : Type 0 where
+  pub blocks : tokens T M B ≡ prefix_code (parted f).prefix
+  pub body : tokens T M X ≡ code (parted f).matrix
 
-pub record Splits (S : List ℕ) (n : ℕ) (X X' : List ℕ) (r : Halves) : Type 0 where
-  pub size : length X' ≡ length X
-  pub halves : length S ≡ house.weight → length X ≡ house.weight → (T M : Bytes) (f : Formula) → Holds T M (as_table S n) f → Parted T M S X' f r
+-- the words W in two parts, which are a formula's if W are
+pub record Splits (W B X : List ℕ) : Type 0 where
+  pub whole : W ≡ B ++ X
+  pub parts : (T M : Bytes) (f : Formula) → tokens T M W ≡ code f → Parted T M B X f

@@ -1,4 +1,4 @@
-// The numbers that come next, of constants and of functions. They are handed on by value.
+// The numbers that come next, of constants and of functions. They are handed on by value, as the project asks: drawing hands them back.
 ghost use Rattle.std.specs.Prelude.{◌≡◌};
 ghost use Rattle.skolem.specs.Counting.{above};
 
@@ -8,21 +8,15 @@ pub struct Counters {
     pub functions: u64,
 }
 
-// A drawn number, and the counters then.
-#[derive(Drop)]
-pub struct Drawn {
-    pub number: u64,
-    pub counters: Counters,
-}
-
 // The next number; one that is past the last stays.
 fn next(number: u64) -> u64
     ensures { result ≡ above number }
 {
     if number > Counters::LAST {
-        return number;
+        number
+    } else {
+        number + 1
     }
-    number + 1
 }
 
 impl Counters {
@@ -39,29 +33,21 @@ impl Counters {
         }
     }
 
-    // Draws a constant's number. One that is past the last is no number of a name.
-    pub fn constant(self) -> Drawn
-        ensures { result ≡ record { number = self.constants; counters = record { constants = above self.constants; functions = self.functions } } }
+    // Draws a constant's number, and gives the counters then. One that is past the last is no number of a name.
+    pub fn constant(mut self) -> (u64, Counters)
+        ensures { result ≡ (self.constants, record { constants = above self.constants; functions = self.functions }) }
     {
-        Drawn {
-            number: self.constants,
-            counters: Counters {
-                constants: next(self.constants),
-                functions: self.functions,
-            },
-        }
+        let number = self.constants;
+        self.constants = next(number);
+        (number, self)
     }
 
     // Draws a function's number, likewise.
-    pub fn function(self) -> Drawn
-        ensures { result ≡ record { number = self.functions; counters = record { constants = self.constants; functions = above self.functions } } }
+    pub fn function(mut self) -> (u64, Counters)
+        ensures { result ≡ (self.functions, record { constants = self.constants; functions = above self.functions }) }
     {
-        Drawn {
-            number: self.functions,
-            counters: Counters {
-                constants: self.constants,
-                functions: next(self.functions),
-            },
-        }
+        let number = self.functions;
+        self.functions = next(number);
+        (number, self)
     }
 }

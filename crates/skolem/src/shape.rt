@@ -1,185 +1,105 @@
-// What is asked of a rule's table before the stage, and its blocks and its matrix in tables of their own.
-ghost use Rattle.std.specs.Prelude.{◌≡◌, not, ℕ, ◌-◌, ◌/◌, ◌%◌, ◌≤◌, length, take};
-ghost use Rattle.std.proofs.Math.Seq.{slice};
+// What is asked of a rule's words before the stage, and its blocks and its matrix, apart.
+ghost use Rattle.std.specs.Prelude.{◌≡◌, not, ◌≤◌, length};
+ghost use Rattle.std.specs.List.{list_any};
 ghost use Rattle.definitions.specs.Bytes.{Bytes};
-ghost use Rattle.definitions.specs.Limits.{house};
 ghost use Rattle.definitions.specs.Syntax.{Formula};
 ghost use Rattle.definitions.specs.Skolem.{holds_hash, hash_free};
 ghost use Rattle.text.specs.Words.{token, tokens, kind_of_word, code};
-ghost use Rattle.skolem.specs.Shape.{any, between, blocks_size, hashed as hashed_token, Shaped, Splits};
+ghost use Rattle.skolem.specs.Shape.{between, blocks_size, hashed as hashed_token, Shaped, Splits};
 
-use crate::matrix;
-use text::kinds::{ALL, CON, EX, FUN};
-use text::names;
-use text::table::Table;
-
-const HASH: u8 = 35;
+use text::kind::Kind;
+use text::names::Spellings;
+use text::word::{count, has_kind, kind_of};
 
 // Whether a name has `#`.
 fn hash_in(name: &[u8]) -> bool
     ensures { result ≡ holds_hash name.now }
 {
-    let mut i = 0;
-    while i < name.len() {
-        if name[i] == HASH {
-            return true;
-        }
-        i += 1;
-    }
-    false
+    name.contains(&b'#')
 }
 
 // Whether a word is a constant or a function with `#` in its name.
-fn hashed<'a>(text: &'a [u8], made: &'a [u8], word: u64) -> bool
-    ensures { result ≡ hashed_token (token text.now made.now word) }
+fn hashed(spellings: Spellings, word: u64) -> bool
+    ensures { result ≡ hashed_token (token spellings.entry.text.now spellings.entry.made.now word) }
 {
-    if word % 16 == FUN {
-        return hash_in(names::spelling(text, made, word));
+    match kind_of(word) {
+        Some(Kind::Function | Kind::Constant) => hash_in(spellings.of(word)),
+        _ => false,
     }
-    if word % 16 == CON {
-        return hash_in(names::spelling(text, made, word));
-    }
-    false
 }
 
-// Whether a constant or a function of the formula in the first `used` nodes has `#` in its name (refusal 5).
-pub fn has_hash<'a>(nodes: &[u64], used: usize, text: &'a [u8], made: &'a [u8]) -> bool
-    ensures { (f : Formula) → tokens text.now made.now (take used nodes.now) ≡ code f → result ≡ not (hash_free f) }
+// Whether one of some words is. This chain and the two below are functions of their own: inside their callers `grind` stops at its limit.
+fn any_hashed(words: &[u64], spellings: Spellings) -> bool
+    ensures { result ≡ list_any (λ w. hashed_token (token spellings.entry.text.now spellings.entry.made.now w)) words.now }
 {
-    let end = matrix::lesser(used, nodes.len());
-    let mut i = 0;
-    while i < end {
-        if hashed(text, made, nodes[i]) {
-            return true;
-        }
-        i += 1;
-    }
-    false
+    words.iter().any(|word| hashed(spellings, *word))
 }
 
-// Whether one of nodes[from..to] has a kind from `low` to `high`.
-fn any_kind(nodes: &[u64], from: usize, to: usize, low: u64, high: u64) -> bool
-    requires { to ≤ length nodes.now }
-    ensures { result ≡ any (λ w. between low high (kind_of_word w)) (slice from to nodes.now) }
+// Whether a constant or a function of a formula has `#` in its name (refusal 5).
+pub fn has_hash(words: &[u64], spellings: Spellings) -> bool
+    ensures { (f : Formula) → tokens spellings.entry.text.now spellings.entry.made.now words.now ≡ code f → result ≡ not (hash_free f) }
 {
-    let mut i = from;
-    while i < to {
-        if is_between(nodes[i] % 16, low, high) {
-            return true;
-        }
-        i += 1;
-    }
-    false
+    any_hashed(words, spellings)
 }
 
-// Whether a number is from `low` to `high`.
-fn is_between(kind: u64, low: u64, high: u64) -> bool
-    ensures { result ≡ between low high kind }
+// Whether a word is a block's.
+fn is_block(word: u64) -> bool
+    ensures { result ≡ between 8 9 (kind_of_word word) }
 {
-    if kind < low {
-        return false;
-    }
-    kind <= high
+    matches!(kind_of(word), Some(Kind::All | Kind::Exists))
 }
 
-// How many variables stand behind a block's word.
-fn due(word: u64) -> usize
-    ensures { result ≡ word / 16 % 64 }
+// Whether one of some words is a block's.
+fn any_block(words: &[u64]) -> bool
+    ensures { result ≡ list_any (λ w. between 8 9 (kind_of_word w)) words.now }
 {
-    (word / 16 % 64) as usize
+    words.iter().any(|word| is_block(*word))
 }
 
-// How many of the first `used` nodes the blocks have that their formula begins with.
-fn blocks_end(nodes: &[u64], used: usize) -> usize
-    requires { used ≤ length nodes.now }
-    ensures { (result ≤ used) × ((T M : Bytes) → result ≡ blocks_size 0 (tokens T M (take used nodes.now))) }
+// Whether one of some words is an exists block's.
+fn any_exists(words: &[u64]) -> bool
+    ensures { result ≡ list_any (λ w. between 9 9 (kind_of_word w)) words.now }
 {
-    let mut left: usize = 0;
-    let mut i = 0;
-    while i < used {
-        if left == 0 {
-            if !is_between(nodes[i] % 16, ALL, EX) {
-                return i;
-            }
-            left = due(nodes[i]);
-            i += 1;
-        } else {
-            left -= 1;
-            i += 1;
-        }
+    words.iter().any(|word| has_kind(*word, Kind::Exists))
+}
+
+// How many of the words the blocks have that their formula begins with.
+fn blocks_end(words: &[u64]) -> usize
+    ensures { (result ≤ length words.now) × ((T M : Bytes) → result ≡ blocks_size 0 (tokens T M words.now)) }
+{
+    let mut end = 0;
+    // Block by block, in steps of unequal length.
+    while end < words.len() && is_block(words[end]) {
+        end += 1 + count(words[end]);
     }
-    i
+    end.min(words.len())
+}
+
+// A formula in two parts: its blocks, and its matrix. Words of no formula are cut somewhere.
+pub fn split(words: &[u64]) -> (&[u64], &[u64])
+    ensures { Splits words.now result.0.now result.1.now }
+{
+    words.split_at(blocks_end(words))
 }
 
 // The shape of a formula: Skolem, prenex but not Skolem, or neither.
-#[derive(Drop)]
+#[derive(Clone, Copy)]
 pub enum Shape {
     Skolem,
     Prenex,
     Other,
 }
 
-// The shape of the formula in the first `used` nodes (refusal 4).
-pub fn shape_of(nodes: &[u64], used: usize) -> Shape
-    ensures { (T M : Bytes) (f : Formula) → tokens T M (take used nodes.now) ≡ code f → Shaped f result }
+// The shape of a formula (refusal 4).
+pub fn shape_of(words: &[u64]) -> Shape
+    ensures { (T M : Bytes) (f : Formula) → tokens T M words.now ≡ code f → Shaped f result }
 {
-    let end = matrix::lesser(used, nodes.len());
-    let start = blocks_end(nodes, end);
-    if any_kind(nodes, start, end, ALL, EX) {
-        return Shape::Other;
-    }
-    if any_kind(nodes, 0, start, EX, EX) {
-        return Shape::Prenex;
-    }
-    Shape::Skolem
-}
-
-// How many words the blocks have that a formula begins with, and how many the rest of it.
-#[derive(Drop)]
-pub struct Halves {
-    pub prefix: usize,
-    pub matrix: usize,
-}
-
-// Moves nodes[from..to] to the front of a table.
-fn copy(nodes: &[u64; Table::WEIGHT], from: usize, to: usize, out: &mut [u64; Table::WEIGHT])
-    requires { (length nodes.now ≡ house.weight) × (from ≤ to) × (to ≤ house.weight) × (length out.old ≡ house.weight) }
-    ensures { (length out.new ≡ house.weight) × (take (to - from) out.new ≡ slice from to nodes.now) }
-{
-    let mut i = from;
-    while i < to {
-        out[i - from] = nodes[i];
-        i += 1;
-    }
-}
-
-// The formula of the first `used` nodes in two parts: its blocks stay at their front, and its matrix goes to the front of `matrix`. Nodes
-// that hold no formula give some words.
-pub fn split(nodes: &[u64; Table::WEIGHT], used: usize, matrix: &mut [u64; Table::WEIGHT]) -> Halves
-    ensures { Splits nodes.now used matrix.old matrix.new result }
-{
-    if used > Table::WEIGHT {
-        return Halves {
-            prefix: 0,
-            matrix: 0,
-        };
-    }
-    if !Table::is_whole(nodes) {
-        return Halves {
-            prefix: 0,
-            matrix: 0,
-        };
-    }
-    if !Table::is_whole(matrix) {
-        return Halves {
-            prefix: 0,
-            matrix: 0,
-        };
-    }
-    let start = blocks_end(nodes, used);
-    copy(nodes, start, used, matrix);
-    Halves {
-        prefix: start,
-        matrix: used - start,
+    let (blocks, matrix) = split(words);
+    if any_block(matrix) {
+        Shape::Other
+    } else if any_exists(blocks) {
+        Shape::Prenex
+    } else {
+        Shape::Skolem
     }
 }

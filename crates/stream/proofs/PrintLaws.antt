@@ -1,29 +1,32 @@
 -- What is printed, in plain variables: lines are runs of bytes put one behind another, and a conversion's answer says what it has laid.
-use mathlib.Core.Path.{◌≡◌, refl, sym, ◌∙◌, ap, subst}
+use mathlib.Core.Path.{◌≡◌, refl, sym, ◌∙◌, ap}
 use mathlib.Core.Bool.{Bool, true, false, cond}
 use mathlib.Core.List.{[], ◌∷◌, ◌++◌, append_assoc}
 use Prim.Native.Nat.{ℕ, zero, suc, ◌+◌, ◌-◌, ◌/◌, ◌^◌, ◌≤◌, ◌<◌, min}
 use native.Mathlib.Omega.{arith}
 use borrow.Author.Tests.{leb-true, ltb-true, ltb-false, le-ltb, lt-ltb, eq-eqb, ne_eqb}
-use lib.Dec.{leb, ltb, eqb}
-use lib.ListN.{length, take, drop, length-append, length-take, length-drop, take-append-drop, get_or-eq_default}
+use lib.Dec.{leb, ltb}
+use lib.ListN.{length, take, drop, length-append, length-take, length-drop, take-append-drop}
 use lib.Seq.{take_at, drop_at, drop-append-le, drop-drop}
 use native.Mathlib.Nat.{zero-add}
 use Rattle.definitions.specs.Bytes.{Bytes, TAB, LF, decimal}
 use Rattle.definitions.specs.Limits.{house, lent, published}
-use Rattle.definitions.specs.Convert.{Conversion, to_simplified, to_nnf, to_pnf, to_snf, to_cnf, to_dnf, pnf_to_snf, snf_to_cnf, snf_to_dnf, Result, given, refused, Answer, accepted, not_given, fitted, laid, answer, out_after, work_after, convert}
-use Rattle.definitions.specs.Program.{conversion_word, done_word, field_line, question, refused_word, refusal, printed, conversions}
+use Rattle.definitions.specs.Convert.{Conversion, to_simplified, to_nnf, to_pnf, to_snf, to_cnf, to_dnf, pnf_to_snf, snf_to_cnf, snf_to_dnf, Result, given, refused as not_made, Answer, accepted, not_given, fitted, laid, answer, out_after, work_after, convert}
+use Rattle.definitions.specs.Program.{conversion_word, done_word, field_line, question, refused_word, refusal, printed}
 use Rattle.definitions.proofs.Laws.Bools.{by_cases}
 use Rattle.writer.specs.Writer.{Wrote, Puts}
 use Rattle.writer.specs.PutLaws.{wrote_none, wrote_both, wrote_is}
 use Rattle.writer.specs.DigitLaws.{decimal_one, length_more}
+use mathlib.Core.Logic.{◌⊎◌, inl, inr}
+use Rattle.convert.specs.declared.Conversion.{Conversion as Named}
 use Rattle.stream.specs.declared.machine.State.{State}
-use Rattle.stream.specs.declared.machine.Phase.{Phase}
-use Rattle.stream.specs.Machine.{at, rule_tab, Print, no_print, refusal_print, done_print, rule_print, conversion_found, result_bytes, name_kept, text_kept, longest_label, print_bytes, print_work, due_print, print_in, last_print, last_in, last_second}
-use Rattle.convert.specs.declared.Answer
-use Rattle.convert.specs.declared.Answer.TheVariants as answers
-use Rattle.convert.specs.Answers.{meaning, number_of, place_of, Meets}
-use Rattle.stream.specs.Pushing.{Told, Put, Prints, print_room}
+use Rattle.stream.specs.declared.machine.State.TheVariants.{First, Refused, Label, Skipped}
+use Rattle.stream.specs.Machine.{at, due_print, last_print, rule_tab, Print, no_print, refusal_print, done_print, rule_print, result_bytes, name_kept, text_kept, longest_label, print_bytes, print_work, last_second}
+use Rattle.std.specs.Prelude.{Result as Fallible, Ok, Err}
+use Rattle.convert.specs.declared.Refusal.{Refusal}
+use Rattle.convert.specs.declared.Refusal.TheVariants as refusals
+use Rattle.convert.specs.Answers.{refused, number_of, place_of, Meets}
+use Rattle.stream.specs.Pushing.{Put, Prints, print_room}
 
 -- a number of 64 bits has at most 20 digits
 decimal_short : (k n : ℕ) → n < 10 ^ suc k → length (decimal n) ≤ suc k
@@ -57,13 +60,6 @@ module _ {o₀ o₁ o₂ o₃ : Bytes} where
       let w = e.room (omega (arith, p.ends, p.size, q.ends, q.size, u.ends, u.size, v.ends, v.size)) in
       wrote_both p (wrote_both q (wrote_both u (wrote_both v w)))
 
--- The conversion at a place.
-pub at_place : (place k : ℕ) → place ≤ k → k ≤ place → conversion_found place ≡ conversion_found k
-at_place place k h l = let e : place ≡ k = omega arith in rw e
-
-pub past_places : (place : ℕ) → length conversions ≤ place → conversion_found place ≡ to_simplified
-past_places place h = get_or-eq_default conversions to_simplified h
-
 pub word_short : (c : Conversion) → length (conversion_word c) ≤ 8
 word_short to_simplified = omega arith
 word_short to_nnf = omega arith
@@ -75,9 +71,17 @@ word_short pnf_to_snf = omega arith
 word_short snf_to_cnf = omega arith
 word_short snf_to_dnf = omega arith
 
-pub word_put : (o o₁ : Bytes) (start r place : ℕ) (c : Conversion) → start + 8 ≤ length o → conversion_found place ≡ c → Puts o start (conversion_word c) o₁ r
-    → Wrote o start (conversion_word (conversion_found place)) o₁ r
-word_put o o₁ start r place c h e p = rw e (p.room (omega (arith, word_short c)))
+-- a refusal is its number and its place
+refused_told : (e : Refusal) → refused e ≡ not_given (number_of (refused e)) (place_of (refused e))
+refused_told refusals.Room = refl
+refused_told (refusals.Malformed k) = refl
+refused_told (refusals.Large k) = refl
+refused_told refusals.Shape = refl
+refused_told refusals.Hash = refl
+refused_told (refusals.Name k) = refl
+refused_told (refusals.Weight k) = refl
+refused_told refusals.Clauses = refl
+refused_told refusals.Work = refl
 
 -- A conversion's answer: a text that was laid, or a refusal, with nothing laid.
 record Given (s part y : Bytes) (n : ℕ) : Type 0 where
@@ -92,7 +96,7 @@ record NotGiven (s part y : Bytes) (n p : ℕ) : Type 0 where
 given_is : (b : Bool) (R : Result) (part y : Bytes) (n : ℕ) → length part ≡ lent → accepted n ≡ cond b (not_given 9 0) (fitted R (length part)) → y ≡ cond b part (laid R part)
     → Given (cond b (refusal 9 0) (printed R)) part y n
 given_is true R part y n l e h = let z : ◌≡◌ {A = ℕ} 0 1 = cc in absurd (omega arith)
-given_is false (refused m p) part y n l e h = let z : ◌≡◌ {A = ℕ} 0 1 = cc in absurd (omega arith)
+given_is false (not_made m p) part y n l e h = let z : ◌≡◌ {A = ℕ} 0 1 = cc in absurd (omega arith)
 given_is false (given s) part y n l e h =
     by_cases (leb (length s) (length part))
     (λ t. rw (← l, t) (record { size = same_size (rw t at e); fits = leb-true (length s) (length part) t; laid_is = rw t at h }))
@@ -110,7 +114,7 @@ not_given_is true R part y n p l e h =
     let a : n ≡ 9 = cc in
     let c : p ≡ 0 = cc in
     record { text = rw (a, c); laid_is = h }
-not_given_is false (refused m q) part y n p l e h =
+not_given_is false (not_made m q) part y n p l e h =
     let a : n ≡ m = cc in
     let c : p ≡ q = cc in
     record { text = rw (a, c); laid_is = h }
@@ -156,34 +160,31 @@ module _ (o part : Bytes) (start k : ℕ) (inside : start + lent ≤ length o) (
       omega (arith, length-append (take start o) (y ++ drop k (drop start o)), length-append y (drop k (drop start o)), length-take start o, length-drop k (drop start o), length-drop start o, part_length)
 
   -- a conversion that was lent the part: what it has answered and laid
-  module _ {y text w w' : Bytes} {answer : Rattle.convert.specs.declared.Answer.Answer} {c : Conversion} {given : Bool} {n p : ℕ} (place : ℕ)
-      (m : Meets c text part w answer y w') (chosen : c ≡ conversion_found place) (t : Told answer given n p) where
-    shown : given ≡ true → Given (result_bytes place text (length w)) part y p
+  module _ {y text w w' : Bytes} {answer : Fallible ℕ Refusal} {c : Conversion} (m : Meets c text part w answer y w') where
+    shown : {n : ℕ} → answer ≡ Ok n → Given (result_bytes c text (length w)) part y n
     unfolding Rattle.definitions.specs.Convert.answer out_after
-    shown g =
-        given_is (ltb (length w) (published house)) (convert house (conversion_found place) text) part y p part_length
-        (sym (rw g at t.means) ∙ rw chosen at m.answers) (rw chosen at m.lays)
+    shown {n} i = given_is (ltb (length w) (published house)) (convert house c text) part y n part_length (rw i at m.answers) m.lays
 
-    not_shown : given ≡ false → NotGiven (result_bytes place text (length w)) part y n p
+    not_shown : {e : Refusal} → answer ≡ Err e → NotGiven (result_bytes c text (length w)) part y (number_of (refused e)) (place_of (refused e))
     unfolding Rattle.definitions.specs.Convert.answer out_after
-    not_shown g =
-        not_given_is (ltb (length w) (published house)) (convert house (conversion_found place) text) part y n p part_length
-        (sym (rw g at t.means) ∙ rw chosen at m.answers) (rw chosen at m.lays)
+    not_shown {e} i =
+        not_given_is (ltb (length w) (published house)) (convert house c text) part y (number_of (refused e)) (place_of (refused e)) part_length
+        (sym (refused_told e) ∙ rw i at m.answers) m.lays
 
-    pub given_short : given ≡ true → p ≤ lent
-    given_short g = let s = shown g in omega (arith, s.size, s.fits, part_length)
+    pub given_short : {n : ℕ} → answer ≡ Ok n → n ≤ lent
+    given_short i = let s = shown i in omega (arith, s.size, s.fits, part_length)
 
-    pub result_given : given ≡ true → Wrote o start (result_bytes place text (length w)) (take start o ++ (y ++ drop k (drop start o))) (start + p)
-    result_given g =
-        let s = shown g in
-        rw (s.laid_is, s.size) (laid_wrote (result_bytes place text (length w)) (omega (arith, s.fits, part_length)))
+    pub result_given : {n : ℕ} → answer ≡ Ok n → Wrote o start (result_bytes c text (length w)) (take start o ++ (y ++ drop k (drop start o))) (start + n)
+    result_given i =
+        let s = shown i in
+        rw (s.laid_is, s.size) (laid_wrote (result_bytes c text (length w)) (omega (arith, s.fits, part_length)))
 
-    pub result_refused : {r : ℕ} {o₂ : Bytes} → given ≡ false → Wrote (take start o ++ (y ++ drop k (drop start o))) start (refusal n p) o₂ r
-        → Wrote o start (result_bytes place text (length w)) o₂ r
-    result_refused g h =
-        let s = not_shown g in
+    pub result_refused : {e : Refusal} {r n p : ℕ} {o₂ : Bytes} → answer ≡ Err e → n ≡ number_of (refused e) → p ≡ place_of (refused e)
+        → Wrote (take start o ++ (y ++ drop k (drop start o))) start (refusal n p) o₂ r → Wrote o start (result_bytes c text (length w)) o₂ r
+    result_refused i a b h =
+        let s = not_shown i in
         let same : take start o ++ (y ++ drop k (drop start o)) ≡ o = rw (s.laid_is, whole) (take-append-drop start o) in
-        rw s.text (rw same at h)
+        rw s.text (rw (same, a, b) at h)
 
 -- Prints.
 module _ {name : Bytes} {m : ℕ} (kept : Bytes) (label : ℕ) (least : m ≡ min label longest_label) (name_is : name ≡ take m (drop 0 kept)) where
@@ -193,21 +194,21 @@ module _ {name : Bytes} {m : ℕ} (kept : Bytes) (label : ℕ) (least : m ≡ mi
   pub line_fits : {o o₁ : Bytes} {start : ℕ} → print_room ≤ length o → Wrote o 0 (rule_tab ++ (name ++ (LF ∷ []))) o₁ start → start + lent ≤ length o₁
   line_fits h p = omega (arith, p.ends, p.size, length-append name (LF ∷ []), name_fits)
 
-  pub rule_good : {o o₁ o₂ w w' text : Bytes} {c start r n : ℕ} (end : ℕ) (good : Bool) → good ≡ true → n ≡ end - label → text ≡ take n (drop label kept)
+  pub rule_good : {o o₁ o₂ w w' text : Bytes} {c : Conversion} {start r n : ℕ} (end : ℕ) → n ≡ end - label → text ≡ take n (drop label kept)
       → Wrote o 0 (rule_tab ++ (name ++ (LF ∷ []))) o₁ start → Wrote o₁ start (result_bytes c text (length w)) o₂ r → w' ≡ work_after house w
-      → Put (rule_print c good (name_kept kept label) (text_kept kept label end)) o w r o₂ w'
+      → Put (rule_print c true (name_kept kept label) (text_kept kept label end)) o w r o₂ w'
   unfolding print_bytes print_work
-  rule_good end good g size text-is p q e =
+  rule_good end size text-is p q e =
       let n : name_kept kept label ≡ _ = ap (λ k. take k kept) (sym least) ∙ sym name_is in
       let t : text_kept kept label end ≡ _ = ap (λ k. take k (drop label kept)) (sym size) ∙ sym text-is in
-      record { wrote_is = rw (g, n, t) (wrote_both p q); work_is = rw g e }
+      record { wrote_is = rw (n, t) (wrote_both p q); work_is = e }
 
-pub rule_bad : {o o₁ o₂ w name text : Bytes} {c start r : ℕ} (good : Bool) → good ≡ false → Wrote o 0 (rule_tab ++ (question ++ (LF ∷ []))) o₁ start
-    → Wrote o₁ start (refusal 2 0) o₂ r → Put (rule_print c good name text) o w r o₂ w
+pub rule_bad : {o o₁ o₂ : Bytes} {start r : ℕ} (c : Conversion) (name text w : Bytes) → Wrote o 0 (rule_tab ++ (question ++ (LF ∷ []))) o₁ start
+    → Wrote o₁ start (refusal 2 0) o₂ r → Put (rule_print c false name text) o w r o₂ w
 unfolding print_bytes print_work
-rule_bad good g p q = record { wrote_is = rw g (wrote_both p q); work_is = rw g }
+rule_bad c name text w p q = record { wrote_is = wrote_both p q; work_is = refl }
 
-pub done_put : {o o₁ w : Bytes} {r : ℕ} (c : ℕ) → Wrote o 0 (field_line done_word (conversion_word (conversion_found c))) o₁ r → Put (done_print c) o w r o₁ w
+pub done_put : {o o₁ w : Bytes} {r : ℕ} (c : Conversion) → Wrote o 0 (field_line done_word (conversion_word c)) o₁ r → Put (done_print c) o w r o₁ w
 unfolding print_bytes print_work
 done_put c p = record { wrote_is = p; work_is = refl }
 
@@ -231,52 +232,33 @@ prints_put {p} {o} {w} {o'} {w'} {r} h q =
 pub prints_none : {p : Print} (o w : Bytes) → length o < print_room → Prints p o w 0 o w
 prints_none o w h = let short = lt-ltb (length o) print_room h in record { wrote_is = rw short; out_is = rw short; work_is = rw short }
 
--- the phase of a state says what is printed
-pub due_phase : (s : State) (p : Phase) (kept : Bytes) → s.phase ≡ p → due_print (at s kept) ≡ print_in p kept s
-unfolding due_print
-due_phase s p kept e = rw e
-
-pub last_phase : (s : State) (p : Phase) (kept : Bytes) → s.phase ≡ p → last_print (at s kept) ≡ last_in p kept s
-unfolding last_print
-last_phase s p kept e = rw e
-
 pub prints_nothing : (o w : Bytes) → Prints no_print o w 0 o w
 prints_nothing o w =
     by_cases (ltb (length o) print_room)
     (λ t. prints_none o w (ltb-true (length o) print_room t))
     (λ f. prints_put (ltb-false (length o) print_room f) (nothing_put o w))
 
-pub done_line_put : {o₀ o₁ o₂ o₃ : Bytes} {first second r : ℕ} (c : ℕ) → print_room ≤ length o₀ → Puts o₀ 0 (done_word ++ (TAB ∷ [])) o₁ first
-    → Wrote o₁ first (conversion_word (conversion_found c)) o₂ second → Puts o₂ second (LF ∷ []) o₃ r → Wrote o₀ 0 (field_line done_word (conversion_word (conversion_found c))) o₃ r
-done_line_put c h a q e =
-    let p = a.room (omega arith) in
-    wrote_both p (wrote_both q (e.room (omega (arith, p.ends, p.size, q.ends, q.size, word_short (conversion_found c)))))
-
-pub second_done : {o o₁ w : Bytes} {r : ℕ} (c k : ℕ) → k ≡ 0 → Wrote o 0 (field_line done_word (conversion_word (conversion_found c))) o₁ r → Put (last_second c k) o w r o₁ w
+pub second_done : {o o₁ w : Bytes} {r : ℕ} (c : Conversion) (k : ℕ) → k ≡ 0 → Wrote o 0 (field_line done_word (conversion_word c)) o₁ r → Put (last_second c k) o w r o₁ w
 second_done c k e p = rw (eq-eqb k 0 e) (done_put c p)
 
-pub second_refused : {o o₁ w : Bytes} {r : ℕ} (c k : ℕ) → (k ≡ 0 → ⊥) → Wrote o 0 (refusal 2 0) o₁ r → Put (last_second c k) o w r o₁ w
+pub second_refused : {o o₁ w : Bytes} {r : ℕ} (c : Conversion) (k : ℕ) → (k ≡ 0 → ⊥) → Wrote o 0 (refusal 2 0) o₁ r → Put (last_second c k) o w r o₁ w
 second_refused c k e p = rw (ne_eqb k 0 e) (refused_put p)
 
--- an answer in numbers
-pub told_numbers : (a : Rattle.convert.specs.declared.Answer.Answer) {n p : ℕ} → n ≡ number_of (meaning a) → p ≡ place_of (meaning a) → Told a (eqb n 0) n p
-told_numbers (answers.Length k) e q = record { means = rw (e, q) }
-told_numbers answers.Room e q = record { means = rw (e, q) }
-told_numbers (answers.Malformed k) e q = record { means = rw (e, q) }
-told_numbers (answers.Large k) e q = record { means = rw (e, q) }
-told_numbers answers.Shape e q = record { means = rw (e, q) }
-told_numbers answers.Hash e q = record { means = rw (e, q) }
-told_numbers (answers.Name k) e q = record { means = rw (e, q) }
-told_numbers (answers.Weight k) e q = record { means = rw (e, q) }
-told_numbers answers.Clauses e q = record { means = rw (e, q) }
-told_numbers answers.Work e q = record { means = rw (e, q) }
+-- What the states print that print nothing of a rule.
+pub nothing_due : (s : State) (kept o w : Bytes) → ((n : ℕ) × (s ≡ First n)) ⊎ ((s ≡ Refused) ⊎ ((c : Named) × (n : ℕ) × (s ≡ Label c n))) → Prints (due_print (at s kept)) o w 0 o w
+unfolding due_print
+nothing_due s kept o w (inl h) = rw h.1 (prints_nothing o w)
+nothing_due s kept o w (inr (inl h)) = rw h (prints_nothing o w)
+nothing_due s kept o w (inr (inr h)) = rw h.2 (prints_nothing o w)
 
--- the text ends before the four bytes of `rule`
-pub rule_due : {o o' w w' : Bytes} {r : ℕ} (c : ℕ) (good : Bool) (kept : Bytes) (label size : ℕ) {end : ℕ} → end ≡ size - 4
-    → Put (rule_print c good (name_kept kept label) (text_kept kept label end)) o w r o' w' → Put (rule_print c good (name_kept kept label) (text_kept kept label (size - 4))) o w r o' w'
-rule_due {o} {o'} {w} {w'} {r} c good kept label size e p = subst (λ k. Put (rule_print c good (name_kept kept label) (text_kept kept label k)) o w r o' w') e p
+pub unnamed_last : {o o' w : Bytes} {r : ℕ} (s : State) (kept : Bytes) → print_room ≤ length o → ((c : Conversion) (name text w : Bytes) → Put (rule_print c false name text) o w r o' w)
+    → ((c : Named) × (n : ℕ) × (s ≡ Label c n)) ⊎ ((c : Named) × (k : ℕ) × (s ≡ Skipped c k)) → Prints (last_print (at s kept)) o w r o' w
+unfolding last_print
+unnamed_last s kept h p (inl (c, n, e)) = rw e (prints_put h (p _ _ _ _))
+unnamed_last s kept h p (inr (c, k, e)) = rw e (prints_put h (p _ _ _ _))
 
--- of a bad label neither the name nor the text is printed
-pub unnamed_put : {o o' w w' name text : Bytes} {r c : ℕ} → Put (rule_print c false name text) o w r o' w' → Put (rule_print c false [] []) o w r o' w'
-unfolding print_bytes print_work
-unnamed_put p = record { wrote_is = p.wrote_is; work_is = p.work_is }
+pub refused_last : {o o' w : Bytes} {r : ℕ} (s : State) (kept : Bytes) → print_room ≤ length o → Wrote o 0 (refusal 2 0) o' r → ((n : ℕ) × (s ≡ First n)) ⊎ (s ≡ Refused)
+    → Prints (last_print (at s kept)) o w r o' w
+unfolding last_print
+refused_last s kept h p (inl (n, e)) = rw e (prints_put h (refused_put p))
+refused_last s kept h p (inr e) = rw e (prints_put h (refused_put p))

@@ -1,17 +1,10 @@
 -- The promises of the two functions that a program calls: a push reads on in a piece until something is printed or the piece ends, and
 -- finish prints what is left at the end of the input. What they print lies at the front of out, and out's old bytes behind it.
-use Rattle.std.specs.Prelude.{◌≡◌, Bool, cond, ◌++◌, ℕ, ◌+◌, ltb, length, drop}
+use Rattle.std.specs.Prelude.{◌≡◌, cond, ◌++◌, ℕ, ◌+◌, ltb, length, drop}
 use Rattle.definitions.specs.Bytes.{Bytes}
-use Rattle.definitions.specs.Convert.{accepted, not_given}
-use Rattle.convert.specs.declared.Answer.{Answer}
-use Rattle.convert.specs.Answers.{meaning}
 use Rattle.writer.specs.Writer.{Wrote}
 use Rattle.stream.specs.declared.Pushed.{Pushed}
 use Rattle.stream.specs.Machine.{Machine, Print, print_bytes, print_work, run, at}
-
--- an answer in numbers
-pub record Told (answer : Answer) (given : Bool) (number place : ℕ) : Type 0 where
-  pub means : meaning answer ≡ cond given (accepted place) (not_given number place)
 
 -- what has to be lent for out: a rule line of at most 30 bytes, and the 65,536 for a result
 abbrev pub print_room : ℕ

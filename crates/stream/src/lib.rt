@@ -6,13 +6,11 @@
 pub mod machine;
 mod print;
 
-ghost use Rattle.std.specs.Prelude.{◌≡◌, Bool, length, drop};
-ghost use Rattle.stream.specs.Machine.{at, first_line, complete as complete_of, last_print};
+ghost use Rattle.std.specs.Prelude.{◌≡◌, length, drop};
+ghost use Rattle.stream.specs.Machine.{at, mode, first_line, last_print};
 ghost use Rattle.stream.specs.Pushing.{Pushes, Prints};
 
 use machine::State;
-
-const TAB: u8 = 9;
 
 // What has to be lent: for what is kept of a rule, for what is printed, and for work.
 pub const KEPT: usize = 34845;
@@ -31,19 +29,9 @@ pub struct Pushed {
 
 // The state before the first byte.
 pub fn begin() -> State
-    ensures { result ≡ first_line 0 }
+    ensures { mode result ≡ first_line 0 }
 {
-    machine::at_first(0)
-}
-
-// Whether a byte completes `rule` TAB at the start of a line.
-fn complete(state: State, b: u8) -> bool
-    ensures { result ≡ complete_of state b }
-{
-    if state.matched == 4 {
-        return b == TAB;
-    }
-    false
+    State::First { size: 0 }
 }
 
 // Reads on in a piece until something is printed or the piece ends.
@@ -57,24 +45,22 @@ pub fn push(
 ) -> Pushed
     ensures { Pushes (at state kept.old) piece.now from out.old work.old result kept.new out.new work.new }
 {
-    let mut s = state;
-    let mut i = from;
-    while i < piece.len() {
+    let mut now = state;
+    for i in from..piece.len() {
         let b = piece[i];
-        i += 1;
-        if complete(s, b) {
-            let wrote = print::due(s, kept, out, work);
+        if let Some(label) = machine::opened(now, b) {
+            let wrote = print::due(now, kept, out, work);
             return Pushed {
-                state: machine::at_label(s.conversion, 0),
-                next: i,
-                wrote: wrote,
+                state: label,
+                next: i + 1,
+                wrote,
             };
         }
-        s = machine::step(s, kept, b);
+        now = machine::step(now, kept, b);
     }
     Pushed {
-        state: s,
-        next: i,
+        state: now,
+        next: from.max(piece.len()),
         wrote: 0,
     }
 }

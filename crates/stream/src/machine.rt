@@ -1,11 +1,14 @@
 // What the stream knows between two bytes, and what a byte makes of it. specs/Machine.antt is the same in words of the definitions.
-ghost use Rattle.std.specs.Prelude.{◌≡◌, Bool, [], ◌∷◌, ◌++◌, length, take, drop, set};
+ghost use Rattle.std.specs.Prelude.{◌≡◌, Bool, true, false, [], ◌∷◌, ◌++◌, length, take, drop, set, MatchOption};
 ghost use Rattle.definitions.specs.Bytes.{Bytes, TAB as tab, LF as lf, same};
 ghost use Rattle.definitions.specs.Limits.{house};
 ghost use Rattle.definitions.specs.RuleText.{simple_name, is_name};
-ghost use Rattle.definitions.specs.Program.{do_word, conversion_word, conversions};
-ghost use Rattle.stream.specs.Machine.{at, number_of, conversion_found, matches as matches_of, next_matched, grown, first_line, refused_file, second_line, in_label, in_text, chosen, first_step, second_step, label_step, text_step, step as machine_step};
+ghost use Rattle.definitions.specs.Program.{do_word, conversion_word, conversions, conversion_of};
+ghost use Rattle.convert.specs.Answers.{named};
+ghost use Rattle.stream.specs.Machine.{at, mode, asked, matches as matches_of, next_matched, grown, second_line, first_step, second_step, label_step, step as machine_step, complete, opened as opened_machine};
 
+use convert::Conversion;
+use text::kind::Kind;
 use text::names;
 
 const TAB: u8 = 9;
@@ -15,126 +18,74 @@ const LF: u8 = 10;
 // The longest first line without its LF, `do` TAB `simplify`; the longest label.
 const FIRST: usize = 11;
 
-const LABEL: usize = 24;
-
-// How many conversions there are.
-const CONVERSIONS: usize = 9;
+pub(crate) const LABEL: usize = 24;
 
 // How `rule` TAB is counted: all five bytes; five also where a line has gone another way.
 const RULE: usize = 5;
 
-// Where the stream is: in the first line, in a file that is refused, in the second line, in a rule's label, in its text.
+// The nine, in the order of their list in specs.
+const CONVERSIONS: [Conversion; 9] = [
+    Conversion::Simplify,
+    Conversion::Nnf,
+    Conversion::Pnf,
+    Conversion::Snf,
+    Conversion::Cnf,
+    Conversion::Dnf,
+    Conversion::PnfSnf,
+    Conversion::SnfCnf,
+    Conversion::SnfDnf,
+];
+
+// Where the stream is. `matched` is how many bytes of `rule` TAB the line has begun with, `size` how many bytes are kept.
 #[derive(Clone, Copy)]
-pub enum Phase {
-    First,
+pub enum State {
+    // In the first line, which is kept.
+    First {
+        size: usize,
+    },
+    // In a file that is refused.
     Refused,
-    Second,
-    Label,
-    Text,
-}
-
-// The conversion is its place among the nine. `good` is whether the label is, `matched` how many bytes of `rule` TAB the line has
-// begun with, `label` how long the label is, and `size` how many bytes are kept: the first line; or the label, and behind it the text.
-#[derive(Clone, Copy)]
-pub struct State {
-    pub phase: Phase,
-    pub conversion: usize,
-    pub good: bool,
-    pub matched: usize,
-    pub label: usize,
-    pub size: usize,
-}
-
-// In the first line, of which so many bytes are kept.
-pub fn at_first(size: usize) -> State
-    ensures { result ≡ first_line size }
-{
-    State {
-        phase: Phase::First,
-        conversion: 0,
-        good: false,
-        matched: RULE,
-        label: 0,
-        size: size,
-    }
-}
-
-// In a file that is refused.
-fn refused() -> State
-    ensures { result ≡ refused_file }
-{
-    State {
-        phase: Phase::Refused,
-        conversion: 0,
-        good: false,
-        matched: RULE,
-        label: 0,
-        size: 0,
-    }
-}
-
-// In the second line.
-fn at_second(conversion: usize, matched: usize) -> State
-    ensures { result ≡ second_line conversion matched }
-{
-    State {
-        phase: Phase::Second,
-        conversion: conversion,
-        good: false,
-        matched: matched,
-        label: 0,
-        size: 0,
-    }
-}
-
-// In a label, of which so many bytes are kept.
-pub fn at_label(conversion: usize, size: usize) -> State
-    ensures { result ≡ in_label conversion size }
-{
-    State {
-        phase: Phase::Label,
-        conversion: conversion,
-        good: false,
-        matched: RULE,
-        label: 0,
-        size: size,
-    }
-}
-
-// In a rule's text, or in the rest of its line where the label is too long.
-fn at_text(conversion: usize, good: bool, matched: usize, label: usize, size: usize) -> State
-    ensures { result ≡ in_text conversion good matched label size }
-{
-    State {
-        phase: Phase::Text,
-        conversion: conversion,
-        good: good,
-        matched: matched,
-        label: label,
-        size: size,
-    }
+    // In the second line.
+    Second {
+        conversion: Conversion,
+        matched: usize,
+    },
+    // In a rule's label, which is kept.
+    Label {
+        conversion: Conversion,
+        size: usize,
+    },
+    // In a rule's text, which is kept behind the label. `label` is the label's length.
+    Text {
+        conversion: Conversion,
+        matched: usize,
+        label: usize,
+        size: usize,
+    },
+    // Behind a bad label: nothing is kept of the rule.
+    Skipped {
+        conversion: Conversion,
+        matched: usize,
+    },
 }
 
 // Keeps a byte behind the others, where there is room, and gives how many are kept then.
 fn keep(kept: &mut [u8], size: usize, b: u8) -> usize
     ensures { (result ≡ grown size kept.old) × (kept.new ≡ set kept.old size b) }
 {
-    if size >= kept.len() {
-        return size;
+    if size < kept.len() {
+        kept[size] = b;
+        size + 1
+    } else {
+        size
     }
-    kept[size] = b;
-    size + 1
 }
 
 // Whether a byte goes on with `rule` TAB behind `matched` of its bytes.
 fn matches(matched: usize, b: u8) -> bool
     ensures { result ≡ matches_of matched b }
 {
-    if matched >= RULE {
-        return false;
-    }
-    let word = b"rule\t";
-    b == word[matched]
+    matched < RULE && b == b"rule\t"[matched]
 }
 
 // How many bytes of `rule` TAB the line has begun with behind one more byte of a text.
@@ -142,148 +93,184 @@ fn matched_behind(matched: usize, b: u8) -> usize
     ensures { result ≡ next_matched matched b }
 {
     if matches(matched, b) {
-        return matched + 1;
+        matched + 1
+    } else if b == LF {
+        0
+    } else {
+        RULE
     }
-    if b == LF {
-        return 0;
-    }
-    RULE
 }
 
-// Whether a first line without its LF names the conversion at a place. No place past the nine comes up.
-fn names_conversion(line: &[u8], place: usize) -> bool
-    ensures { result ≡ same line.now (do_word ++ (tab ∷ conversion_word (conversion_found place))) }
+// The name of a conversion.
+pub(crate) fn name(conversion: Conversion) -> &'static [u8]
+    ensures { result.now ≡ conversion_word (named conversion) }
 {
-    if place <= 0 {
-        return names::same_name(line, b"do\tsimplify");
+    match conversion {
+        Conversion::Simplify => b"simplify",
+        Conversion::Nnf => b"nnf",
+        Conversion::Pnf => b"pnf",
+        Conversion::Snf => b"snf",
+        Conversion::Cnf => b"cnf",
+        Conversion::Dnf => b"dnf",
+        Conversion::PnfSnf => b"pnf-snf",
+        Conversion::SnfCnf => b"snf-cnf",
+        Conversion::SnfDnf => b"snf-dnf",
     }
-    if place <= 1 {
-        return names::same_name(line, b"do\tnnf");
-    }
-    if place <= 2 {
-        return names::same_name(line, b"do\tpnf");
-    }
-    if place <= 3 {
-        return names::same_name(line, b"do\tsnf");
-    }
-    if place <= 4 {
-        return names::same_name(line, b"do\tcnf");
-    }
-    if place <= 5 {
-        return names::same_name(line, b"do\tdnf");
-    }
-    if place <= 6 {
-        return names::same_name(line, b"do\tpnf-snf");
-    }
-    if place <= 7 {
-        return names::same_name(line, b"do\tsnf-cnf");
-    }
-    if place <= 8 {
-        return names::same_name(line, b"do\tsnf-dnf");
-    }
-    names::same_name(line, b"do\tsimplify")
 }
 
-// The place of the conversion that a first line without its LF names, past them all where it names none.
-fn conversion(line: &[u8]) -> usize
-    ensures { result ≡ number_of conversions (line.now ++ (lf ∷ [])) }
+// Whether a first line without its LF names a conversion.
+fn names_conversion(line: &[u8], conversion: Conversion) -> bool
+    ensures { result ≡ same line.now (do_word ++ (tab ∷ conversion_word (named conversion))) }
 {
-    let mut place = 0;
-    while place < CONVERSIONS {
-        if names_conversion(line, place) {
-            return place;
+    line.starts_with(b"do\t") && names::same_name(&line[3..], name(conversion))
+}
+
+// The conversion that a first line without its LF names. A loop and no match on the line: that would have fifty goals, one for each byte
+// at which a line can differ.
+fn conversion(line: &[u8]) -> Option<Conversion>
+    ensures { asked result ≡ conversion_of conversions (line.now ++ (lf ∷ [])) }
+{
+    for conversion in CONVERSIONS {
+        if names_conversion(line, conversion) {
+            return Some(conversion);
         }
-        place += 1;
     }
-    CONVERSIONS
-}
-
-// The same for the first line that is kept.
-fn kept_conversion(kept: &[u8], size: usize) -> usize
-    ensures { result ≡ number_of conversions (take size kept.now ++ (lf ∷ [])) }
-{
-    conversion(names::clip(kept, 0, size))
+    None
 }
 
 // Whether the label that is kept is a name without `#` or backtick.
 fn kept_name(kept: &[u8], size: usize) -> bool
     ensures { result ≡ is_name house simple_name (take size kept.now) }
 {
-    reader::is_name_of(names::clip(kept, 0, size), 10)
+    reader::is_name_of(names::clip(kept, 0, size), Kind::Predicate)
 }
 
-// Behind the first line: a file that is refused where it named no conversion.
-fn behind_first(conversion: usize) -> State
-    ensures { result ≡ chosen conversion }
-{
-    if conversion < CONVERSIONS {
-        return at_second(conversion, 0);
-    }
-    refused()
-}
-
-// A byte of the first line. One that is longer than the longest good one is bad at once.
+// A byte of the first line. At its LF it names a conversion, or the file is refused; one that is longer than the longest good one is bad
+// at once.
+#[tactic(auto, unfolding(crate::specs::Machine::first_step))]
 fn in_first(kept: &mut [u8], size: usize, b: u8) -> State
     ensures { at result kept.new ≡ first_step kept.old size b }
 {
     if b == LF {
-        let found = kept_conversion(kept, size);
-        return behind_first(found);
+        match conversion(names::clip(kept, 0, size)) {
+            Some(conversion) => State::Second {
+                conversion,
+                matched: 0,
+            },
+            None => State::Refused,
+        }
+    } else if size < FIRST {
+        State::First {
+            size: keep(kept, size, b),
+        }
+    } else {
+        State::Refused
     }
-    if size >= FIRST {
-        return refused();
-    }
-    let more = keep(kept, size, b);
-    at_first(more)
 }
 
 // A byte of the second line, which has to begin with `rule` TAB.
-fn in_second(conversion: usize, matched: usize, b: u8) -> State
-    ensures { (kept : Bytes) → at result kept ≡ second_step kept conversion matched b }
+#[tactic(auto, unfolding(crate::specs::Machine::second_step))]
+fn in_second(conversion: Conversion, matched: usize, b: u8) -> State
+    ensures { (kept : Bytes) → at result kept ≡ second_step kept (named conversion) matched b }
 {
     if matches(matched, b) {
-        return at_second(conversion, matched + 1);
+        State::Second {
+            conversion,
+            matched: matched + 1,
+        }
+    } else {
+        State::Refused
     }
-    refused()
 }
 
 // A byte of a label. At its LF the label is good or bad; one that is too long is bad at once.
-fn in_label_byte(kept: &mut [u8], conversion: usize, size: usize, b: u8) -> State
-    ensures { at result kept.new ≡ label_step kept.old conversion size b }
+#[tactic(auto, unfolding(crate::specs::Machine::label_step))]
+fn in_label(kept: &mut [u8], conversion: Conversion, size: usize, b: u8) -> State
+    ensures { at result kept.new ≡ label_step kept.old (named conversion) size b }
 {
     if b == LF {
-        let good = kept_name(kept, size);
-        return at_text(conversion, good, 0, size, size);
+        if kept_name(kept, size) {
+            State::Text {
+                conversion,
+                matched: 0,
+                label: size,
+                size,
+            }
+        } else {
+            State::Skipped {
+                conversion,
+                matched: 0,
+            }
+        }
+    } else if size < LABEL {
+        State::Label {
+            conversion,
+            size: keep(kept, size, b),
+        }
+    } else {
+        State::Skipped {
+            conversion,
+            matched: RULE,
+        }
     }
-    if size >= LABEL {
-        return at_text(conversion, false, RULE, 0, 0);
-    }
-    let more = keep(kept, size, b);
-    at_label(conversion, more)
 }
 
-// A byte of a text, which is kept where the label is good.
-fn in_text_byte(state: State, kept: &mut [u8], b: u8) -> State
-    ensures { at result kept.new ≡ text_step kept.old state b }
-{
-    let matched = matched_behind(state.matched, b);
-    if state.good {
-        let more = keep(kept, state.size, b);
-        return at_text(state.conversion, true, matched, state.label, more);
-    }
-    at_text(state.conversion, false, matched, state.label, state.size)
-}
-
-// A byte, in whatever phase.
+// A byte, in whatever state.
+#[tactic(auto, unfolding(crate::specs::Machine::step, crate::specs::Machine::text_step))]
 pub fn step(state: State, kept: &mut [u8], b: u8) -> State
     ensures { at result kept.new ≡ machine_step (at state kept.old) b }
 {
-    let phase = state.phase;
-    match phase {
-        Phase::First => in_first(kept, state.size, b),
-        Phase::Refused => refused(),
-        Phase::Second => in_second(state.conversion, state.matched, b),
-        Phase::Label => in_label_byte(kept, state.conversion, state.size, b),
-        Phase::Text => in_text_byte(state, kept, b),
+    match state {
+        State::First { size } => in_first(kept, size, b),
+        State::Refused => State::Refused,
+        State::Second {
+            conversion,
+            matched,
+        } => in_second(conversion, matched, b),
+        State::Label { conversion, size } => in_label(kept, conversion, size, b),
+        State::Text {
+            conversion,
+            matched,
+            label,
+            size,
+        } => State::Text {
+            conversion,
+            matched: matched_behind(matched, b),
+            label,
+            size: keep(kept, size, b),
+        },
+        State::Skipped {
+            conversion,
+            matched,
+        } => State::Skipped {
+            conversion,
+            matched: matched_behind(matched, b),
+        },
+    }
+}
+
+// Where a byte completes `rule` TAB at the start of a line, the label behind it; None where it does not.
+pub(crate) fn opened(state: State, b: u8) -> Option<State>
+    ensures { MatchOption result (complete (mode state) b ≡ false)
+        (λ s. (complete (mode state) b ≡ true) × ((kept : Bytes) → at s kept ≡ opened_machine (at state kept))) }
+{
+    match state {
+        State::Second {
+            conversion,
+            matched: 4,
+        }
+        | State::Text {
+            conversion,
+            matched: 4,
+            ..
+        }
+        | State::Skipped {
+            conversion,
+            matched: 4,
+        } if b == TAB => Some(State::Label {
+            conversion,
+            size: 0,
+        }),
+        _ => None,
     }
 }

@@ -1,5 +1,5 @@
 -- What a table keeps while words are put behind those it has, and where its words come from.
-use Rattle.std.specs.Prelude.{◌≡◌, refl, false, List, [], ◌∷◌, ℕ, zero, suc, ◌+◌, get_or, set}
+use Rattle.std.specs.Prelude.{◌≡◌, refl, false, List, [], ◌∷◌, ◌++◌, ℕ, zero, suc, ◌+◌, get_or, set, take, drop}
 use Rattle.std.proofs.Common.{◌∙◌, arith, length-set}
 use Rattle.std.proofs.lemmas.List.{take-set-le}
 use Rattle.text.specs.Words.{is_made}
@@ -46,3 +46,29 @@ keeps_word i k = record { size = k.size; kept = k.kept; more = k.more; origin = 
 -- a word of the table itself
 pub keeps_own : {S O : List ℕ} {u : ℕ} {O₁ : List ℕ} {u₁ : ℕ} (i : ℕ) → Keeps (get_or O i 0 ∷ []) O u O₁ u₁ → Keeps S O u O₁ u₁
 keeps_own i k = record { size = k.size; kept = k.kept; more = k.more; origin = λ s o. k.origin (unmade_word (o.each i)) o }
+
+-- a part of the source
+pub unmade_take : (n : ℕ) (ws : List ℕ) → Unmade ws → Unmade (take n ws)
+unmade_take n ws u = record { each = go n ws u.each }
+  where
+    go : (n : ℕ) (l : List ℕ) → ((i : ℕ) → is_made (get_or l i 0) ≡ false) → (i : ℕ) → is_made (get_or (take n l) i 0) ≡ false
+    go zero l h i = refl
+    go (suc n) [] h i = refl
+    go (suc n) (x ∷ xs) h zero = h zero
+    go (suc n) (x ∷ xs) h (suc i) = go n xs (λ j. h (suc j)) i
+
+pub unmade_drop : (n : ℕ) (ws : List ℕ) → Unmade ws → Unmade (drop n ws)
+unmade_drop n ws u = record { each = go n ws u.each }
+  where
+    go : (n : ℕ) (l : List ℕ) → ((i : ℕ) → is_made (get_or l i 0) ≡ false) → (i : ℕ) → is_made (get_or (drop n l) i 0) ≡ false
+    go zero l h i = h i
+    go (suc n) [] h i = refl
+    go (suc n) (x ∷ xs) h i = go n xs (λ j. h (suc j)) i
+
+pub unmade_append : (a b : List ℕ) → Unmade a → Unmade b → Unmade (a ++ b)
+unmade_append a b u v = record { each = go a u.each }
+  where
+    go : (l : List ℕ) → ((i : ℕ) → is_made (get_or l i 0) ≡ false) → (i : ℕ) → is_made (get_or (l ++ b) i 0) ≡ false
+    go [] h i = v.each i
+    go (x ∷ xs) h zero = h zero
+    go (x ∷ xs) h (suc i) = go xs (λ j. h (suc j)) i

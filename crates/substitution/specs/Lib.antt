@@ -2,7 +2,7 @@
 -- of its body's list.
 pub mod Runs
 pub mod Slices
+pub mod Arguments
 pub mod Unions
 pub mod Spelled
-pub mod Arguments
 pub mod Keeping

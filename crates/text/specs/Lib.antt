@@ -9,6 +9,6 @@ pub mod Streams
 pub mod Arguments
 pub mod Prefixes
 pub mod PrefixLaws
+pub mod Kinds
 pub mod Nodes
 pub mod NodeLaws
-pub mod Digits

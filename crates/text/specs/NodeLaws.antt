@@ -1,16 +1,16 @@
 -- A node's word has the node again, if its fields are small enough for their places; and a word's node has the word again, up to what
 -- lies above start's place.
-use Rattle.std.specs.Prelude.{◌≡◌, refl, Bool, true, false, ◌&&◌, List, [], ◌∷◌, map, ℕ, zero, suc, ◌+◌, ◌*◌, ◌/◌, ◌%◌, ◌≤◌, ◌<◌, length, get_or, eqb, ltb}
+use Rattle.std.specs.Prelude.{◌≡◌, refl, Bool, true, false, ◌&&◌, List, [], ◌∷◌, map, ℕ, zero, suc, ◌+◌, ◌*◌, ◌/◌, ◌%◌, ◌≤◌, ◌<◌, length, get_or, eqb, ltb, Some}
 use Rattle.std.proofs.Common.{sym, ap, ◌∙◌, arith, le-leb, eqb-true, ltb-true, ltb-false}
 use Rattle.std.proofs.lemmas.Bool.{eqb-false}
 use Rattle.std.proofs.Math.ListN.{get_or-map, get_or-eq_default}
-use Rattle.text.specs.declared.node.Kind.{Kind}
-use Rattle.text.specs.declared.node.Kind.TheVariants.{Top, Bottom, Not, And, Or, Implies, Iff, Equals, All, Exists, Predicate, Function, Variable, Constant}
+use Rattle.text.specs.declared.kind.Kind.{Kind}
+use Rattle.text.specs.declared.kind.Kind.TheVariants.{Top, Bottom, Not, And, Or, Implies, Iff, Equals, All, Exists, Predicate, Function, Variable, Constant}
 use Rattle.text.specs.declared.node.Node.{Node}
-use Rattle.text.specs.declared.node.Unpacked.TheVariants.{Whole}
 use Rattle.definitions.proofs.Laws.Bools.{by_cases, and_true_left, and_true_right}
 use Rattle.text.specs.Words.{word_of, kind_of_word}
-use Rattle.text.specs.Nodes.{number, kinds, kind_at, origin, packed, node_of, unpacked}
+use Rattle.text.specs.Kinds.{number}
+use Rattle.text.specs.Nodes.{kinds, kind_at, origin, packed, node_of, unpacked}
 
 -- Kinds and their numbers.
 pub kind_at_number : (k : Kind) → kind_at (number k) ≡ k
@@ -82,12 +82,12 @@ made_again false = refl
 same_node : {m n : Node} → m.kind ≡ n.kind → m.count ≡ n.count → m.made ≡ n.made → m.start ≡ n.start → m.size ≡ n.size → m ≡ n
 same_node a b c d e = λ i. record { kind = a i; count = b i; made = c i; start = d i; size = e i }
 
-pub unpacked_packed : (n : Node) → Small n → unpacked (packed n) ≡ Whole n
+pub unpacked_packed : (n : Node) → Small n → unpacked (packed n) ≡ Some n
 unpacked_packed n h =
     let p = word_parts (number n.kind) (n.count % 64) (origin n.made) (n.size % 64) (n.start % 4294967296)
     (omega (arith, number_small n.kind)) (omega arith) (origin_small n.made) (omega arith) (omega arith) in
     rw (le-leb (kind_of_word (packed n)) 13 (omega (arith, p.kind, number_small n.kind)))
-    (ap Whole (same_node {m = node_of (packed n)} {n = n}
+    (ap Some (same_node {m = node_of (packed n)} {n = n}
     (ap kind_at p.kind ∙ kind_at_number n.kind)
     (p.count ∙ omega (arith, h.count))
     (ap (λ (o : ℕ). eqb o 1) p.origin ∙ made_again n.made)

@@ -1,28 +1,10 @@
 -- Nodes and their words: a node has a word, and the word has the node again (NodeLaws).
-use Rattle.std.specs.Prelude.{Bool, true, false, cond, List, [], ◌∷◌, ℕ, ◌%◌, leb, get_or}
-use Rattle.text.specs.declared.node.Kind.{Kind}
-use Rattle.text.specs.declared.node.Kind.TheVariants.{Top, Bottom, Not, And, Or, Implies, Iff, Equals, All, Exists, Predicate, Function, Variable, Constant}
+use Rattle.std.specs.Prelude.{Bool, true, false, cond, List, [], ◌∷◌, ℕ, ◌%◌, leb, get_or, Option, Some, None}
+use Rattle.text.specs.declared.kind.Kind.{Kind}
+use Rattle.text.specs.declared.kind.Kind.TheVariants.{Top, Bottom, Not, And, Or, Implies, Iff, Equals, All, Exists, Predicate, Function, Variable, Constant}
 use Rattle.text.specs.declared.node.Node.{Node}
-use Rattle.text.specs.declared.node.Unpacked.{Unpacked}
-use Rattle.text.specs.declared.node.Unpacked.TheVariants.{Whole, Broken}
+use Rattle.text.specs.Kinds.{number}
 use Rattle.text.specs.Words.{word_of, kind_of_word, count_of, is_made, size_of, start_of}
-
--- a kind's number is its place in the order of Words
-abbrev pub number : Kind → ℕ
-number Top = 0
-number Bottom = 1
-number Not = 2
-number And = 3
-number Or = 4
-number Implies = 5
-number Iff = 6
-number Equals = 7
-number All = 8
-number Exists = 9
-number Predicate = 10
-number Function = 11
-number Variable = 12
-number Constant = 13
 
 -- the kinds before the last, and the kind at a place
 abbrev pub kinds : List Kind
@@ -43,5 +25,5 @@ packed n = word_of (number n.kind) (n.count % 64) (origin n.made) (n.size % 64) 
 abbrev pub node_of : ℕ → Node
 node_of w = record { kind = kind_at (kind_of_word w); count = count_of w; made = is_made w; start = start_of w; size = size_of w }
 
-abbrev pub unpacked : ℕ → Unpacked
-unpacked w = cond (leb (kind_of_word w) 13) (Whole (node_of w)) Broken
+abbrev pub unpacked : ℕ → Option Node
+unpacked w = cond (leb (kind_of_word w) 13) (Some (node_of w)) None

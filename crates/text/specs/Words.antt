@@ -4,8 +4,8 @@
 -- `or` `imp` `iff` `eq` `all` `ex` `pred` `fun` `var` `con`; the count is a predicate's or a function's number of arguments, or a block's
 -- number of variables, and else 0; the rest is a symbol: where its spelling starts and how long it is, in the rule text (origin 0) or among
 -- the made names (origin 1). What lies above start's 32 bits is left free.
-use Rattle.std.specs.Prelude.{Bool, cond, List, [], ◌∷◌, ◌++◌, map, ℕ, ◌+◌, ◌*◌, ◌/◌, ◌%◌, eqb, length, take, drop}
-use Rattle.definitions.specs.Bytes.{Bytes}
+use Rattle.std.specs.Prelude.{Bool, false, cond, List, [], ◌∷◌, ◌++◌, map, ℕ, ◌+◌, ◌*◌, ◌/◌, ◌%◌, eqb, length, take, drop}
+use Rattle.definitions.specs.Bytes.{Bytes, same}
 use Rattle.definitions.specs.Syntax.{Name, Term, var, con, app, Terms, nil, cons, count as arguments, Op, and, or, imp, iff, Quant, all, ex, Formula, top, bot, pred, eq, neg, bin, blk}
 
 abbrev pub word_of : ℕ → ℕ → ℕ → ℕ → ℕ → ℕ
@@ -53,6 +53,11 @@ token T M w = cond (eqb (kind_of_word w) 12) (var_token (spell T M w)) (sign (ki
 
 abbrev pub tokens : Bytes → Bytes → List ℕ → List Token
 tokens T M ws = map (token T M) ws
+
+-- whether a token is the variable of a name
+abbrev pub same_variable : Name → Token → Bool
+same_variable x (var_token y) = same x y
+same_variable x (sign k n s) = false
 
 -- how many terms stand behind a term's token: a function's arguments
 abbrev pub behind : Token → ℕ

@@ -1,7 +1,8 @@
 // Names and their order, symbols and their spellings, and the node table.
 #![tactic(auto)]
 
-pub mod kinds;
+pub mod kind;
 pub mod names;
 pub mod node;
 pub mod table;
+pub mod word;

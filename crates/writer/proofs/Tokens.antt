@@ -1,109 +1,130 @@
 -- What a word's token writes, read off the word: the tests are those that the code makes.
-use mathlib.Core.Path.{◌≡◌, refl, sym, ap, ◌∙◌}
-use mathlib.Core.Bool.{Bool, true, ◌&&◌, cond}
-use mathlib.Core.List.{List, [], ◌∷◌, ◌++◌, append-nil}
-use Prim.Native.Nat.{ℕ, zero, suc, ◌+◌, ◌-◌, ◌≤◌, ◌<◌, min}
-use native.Mathlib.Numerals.{add-one}
+use mathlib.Core.Path.{◌≡◌, refl, ap, ◌∙◌}
+use mathlib.Core.Bool.{cond}
+use mathlib.Core.List.{[], ◌∷◌, ◌++◌, append-nil}
+use mathlib.Core.Logic.{◌⊎◌, inl, inr, ⊎_elim}
+use Prim.Native.Nat.{ℕ, zero, suc, ◌-◌, ◌≤◌, ◌<◌}
 use native.Mathlib.Omega.{arith}
-use native.Mathlib.Nat.{min-eq_left, min-eq_right, le_of_lt}
-use borrow.Author.Tests.{leb-true, leb-false, le-leb, lt-leb}
-use lib.Dec.{leb}
-use lib.ListN.{length, drop, get_or, length-take, length-append, get_or-eq_default}
-use lib.Seq.{slice, slice-cons, take_all, take-length}
+use borrow.Author.Tests.{le-leb, lt-leb}
+use lib.ListN.{length, drop, length-take, get_or-eq_default}
 use Rattle.definitions.specs.Bytes.{Bytes, TAB, LF, behind_each, decimal}
-use Rattle.definitions.proofs.Laws.Bools.{by_cases, and_true_left, and_true_right}
-use Rattle.text.specs.Words.{kind_of_word, count_of, is_made, size_of, start_of, spell, token, tokens, count}
+use Rattle.text.specs.declared.kind.Kind.{Kind}
+use Rattle.text.specs.declared.kind.Kind.TheVariants.{All, Exists, Predicate, Function, Variable, Constant}
+use Rattle.text.specs.declared.names.Spellings.{Spellings}
+use Rattle.text.specs.Kinds.{number}
+use Rattle.text.specs.Words.{kind_of_word, count_of, is_made, size_of, start_of, token, kind, count, name}
 use Rattle.text.specs.WordLaws.{other_word, kind_is, name_is}
-use Rattle.writer.specs.Writer.{keywords, keyword_of, body, after, end, text_from, Puts}
+use Rattle.writer.specs.Writer.{keywords, keyword_of, body, after, end, name_in, body_in}
 
+-- Which numbers the kinds of an arm have.
+unnamed : {k : Kind} → (k ≡ Predicate → ⊥) → (k ≡ Function → ⊥) → (k ≡ Variable → ⊥) → (k ≡ Constant → ⊥) → number k ≤ 9
+unnamed {k = Predicate} p f v c = absurd (p refl)
+unnamed {k = Function} p f v c = absurd (f refl)
+unnamed {k = Variable} p f v c = absurd (v refl)
+unnamed {k = Constant} p f v c = absurd (c refl)
+unnamed {k} p f v c = omega arith
+
+counted : {k : Kind} → (k ≡ Predicate) ⊎ (k ≡ Function) → (9 < number k) × (number k ≤ 11)
+counted p = ⊎_elim (λ e. rw e (omega arith, omega arith)) (λ e. rw e (omega arith, omega arith)) p
+
+named : {k : Kind} → (k ≡ Variable) ⊎ (k ≡ Constant) → 11 < number k
+named p = ⊎_elim (λ e. rw e (omega arith)) (λ e. rw e (omega arith)) p
+
+block : {k : Kind} → (k ≡ All) ⊎ (k ≡ Exists) → (7 < number k) × (number k ≤ 9)
+block p = ⊎_elim (λ e. rw e (omega arith, omega arith)) (λ e. rw e (omega arith, omega arith)) p
+
+no_block : {k : Kind} → (k ≡ All → ⊥) → (k ≡ Exists → ⊥) → (number k ≤ 7) ⊎ (9 < number k)
+no_block {k = All} a x = absurd (a refl)
+no_block {k = Exists} a x = absurd (x refl)
+no_block {k = Predicate} a x = inr (omega arith)
+no_block {k = Function} a x = inr (omega arith)
+no_block {k = Variable} a x = inr (omega arith)
+no_block {k = Constant} a x = inr (omega arith)
+no_block {k} a x = inl (omega arith)
+
+-- What is due behind a word.
 module _ (T M : Bytes) (w : ℕ) where
-  token_count : kind_of_word w ≤ 11 → count (token T M w) ≡ count_of w
-  token_count h = ap count (other_word T M w (omega arith))
-
-  -- a name of a table has at most 63 bytes
-  pub short : length (spell T M w) ≤ 63
-  short = omega (arith, length-take (size_of w) (drop (start_of w) (cond (is_made w) M T)))
-
-  -- where variables are due
-  pub body_due : (n : ℕ) → 0 < n → body n (token T M w) ≡ TAB ∷ spell T M w
-  unfolding body
-  body_due zero h = absurd (omega arith)
-  body_due (suc n) h = ap (λ (s : Bytes). TAB ∷ s) (name_is T M w)
-
   pub after_due : (n : ℕ) → 0 < n → after n (token T M w) ≡ n - 1
   unfolding after
   after_due zero h = absurd (omega arith)
   after_due (suc n) h = omega arith
 
   -- where a line begins
-  pub after_plain : kind_of_word w ≤ 7 → after 0 (token T M w) ≡ 0
-  unfolding after
-  after_plain h = rw (kind_is T M w, le-leb (kind_of_word w) 7 h)
+  module _ (n : ℕ) (begins : n ≤ 0) where
+    none_due : n ≡ 0
+    none_due = omega arith
 
-  pub after_block : 7 < kind_of_word w → kind_of_word w ≤ 9 → after 0 (token T M w) ≡ count_of w
-  unfolding after
-  after_block h k = rw (kind_is T M w, lt-leb (kind_of_word w) 7 h, le-leb (kind_of_word w) 9 k) (token_count (omega arith))
+    after_no_block : (kind_of_word w ≤ 7) ⊎ (9 < kind_of_word w) → after n (token T M w) ≡ 0
+    unfolding after
+    after_no_block h =
+        ⊎_elim
+        (λ low. rw (none_due, kind_is T M w, le-leb (kind_of_word w) 7 low))
+        (λ high. rw (none_due, kind_is T M w, lt-leb (kind_of_word w) 7 (omega arith), lt-leb (kind_of_word w) 9 high))
+        h
 
-  pub after_symbol : 9 < kind_of_word w → after 0 (token T M w) ≡ 0
-  unfolding after
-  after_symbol h = rw (kind_is T M w, lt-leb (kind_of_word w) 7 (omega arith), lt-leb (kind_of_word w) 9 h)
+    pub after_unknown : 13 < kind_of_word w → after n (token T M w) ≡ 0
+    after_unknown h = after_no_block (inr (omega arith))
 
-  pub body_plain : kind_of_word w ≤ 9 → body 0 (token T M w) ≡ keyword_of (kind_of_word w)
-  unfolding body behind_each
-  body_plain h = rw (kind_is T M w, le-leb (kind_of_word w) 9 h) (append-nil (keyword_of (kind_of_word w)))
+    module _ {k : Kind} (is : kind_of_word w ≡ number k) where
+      pub after_block : (k ≡ All) ⊎ (k ≡ Exists) → after n (token T M w) ≡ count_of w
+      unfolding after
+      after_block p =
+          let h = block p in
+          rw (none_due, kind_is T M w, lt-leb (kind_of_word w) 7 (omega arith), le-leb (kind_of_word w) 9 (omega arith))
+          (ap count (other_word T M w (omega arith)))
 
-  pub body_counted : 9 < kind_of_word w → kind_of_word w ≤ 11
-      → body 0 (token T M w) ≡ keyword_of (kind_of_word w) ++ ((TAB ∷ spell T M w) ++ (TAB ∷ decimal (count_of w)))
-  unfolding body behind_each
-  body_counted h k =
-      rw (kind_is T M w, lt-leb (kind_of_word w) 9 h, le-leb (kind_of_word w) 11 k, name_is T M w, token_count k, append-nil (decimal (count_of w)))
+      pub after_other : (k ≡ All → ⊥) → (k ≡ Exists → ⊥) → after n (token T M w) ≡ 0
+      after_other a x = after_no_block (rw is (no_block a x))
 
-  pub body_named : 11 < kind_of_word w → body 0 (token T M w) ≡ keyword_of (kind_of_word w) ++ (TAB ∷ spell T M w)
-  unfolding body behind_each
-  body_named h = rw (kind_is T M w, lt-leb (kind_of_word w) 9 (omega arith), lt-leb (kind_of_word w) 11 h, name_is T M w, append-nil (spell T M w))
+-- What a word writes.
+module _ (s : Spellings) (w : ℕ) where
+  -- a name of a table has at most 63 bytes
+  pub short : length (name_in s w) ≤ 63
+  short = omega (arith, length-take (size_of w) (drop (start_of w) (cond (is_made w) s.made.now s.text.now)))
 
-  -- their lengths
-  pub length_counted : 9 < kind_of_word w → kind_of_word w ≤ 11
-      → length (body 0 (token T M w)) ≡ length (keyword_of (kind_of_word w)) + (1 + length (spell T M w) + (1 + length (decimal (count_of w))))
-  length_counted h k =
-      ap length (body_counted h k)
-      ∙ omega (
-        arith,
-        length-append (keyword_of (kind_of_word w)) ((TAB ∷ spell T M w) ++ (TAB ∷ decimal (count_of w))),
-        length-append (TAB ∷ spell T M w) (TAB ∷ decimal (count_of w)),
-      )
+  its_kind : kind (token s.text.now s.made.now w) ≡ kind_of_word w
+  its_kind = kind_is s.text.now s.made.now w
 
-  pub length_named : 11 < kind_of_word w → length (body 0 (token T M w)) ≡ length (keyword_of (kind_of_word w)) + (1 + length (spell T M w))
-  length_named h = ap length (body_named h) ∙ omega (arith, length-append (keyword_of (kind_of_word w)) (TAB ∷ spell T M w))
+  its_name : name (token s.text.now s.made.now w) ≡ name_in s w
+  its_name = name_is s.text.now s.made.now w
 
-  -- behind the keyword there is at least the name
-  pub length_symbol : 9 < kind_of_word w → length (keyword_of (kind_of_word w)) + (1 + length (spell T M w)) ≤ length (body 0 (token T M w))
-  length_symbol h =
-      by_cases (leb (kind_of_word w) 11)
-      (λ t. omega (arith, length_counted h (leb-true (kind_of_word w) 11 t)))
-      (λ f. omega (arith, length_named (leb-false (kind_of_word w) 11 f)))
+  -- where variables are due
+  pub body_due : (n : ℕ) → 0 < n → body_in s n w ≡ TAB ∷ name_in s w
+  unfolding body
+  body_due zero h = absurd (omega arith)
+  body_due (suc n) h = ap (TAB ∷◌) its_name
 
--- The keyword of a kind that is known, and how long any is.
-pub keyed : {o o₁ : Bytes} {at k r : ℕ} (n : ℕ) → k ≡ n → Puts o at (get_or keywords n []) o₁ r → Puts o at (keyword_of k) o₁ r
-unfolding keyword_of
-keyed n e p = rw e p
+  -- where a line begins
+  module _ (n : ℕ) (begins : n ≤ 0) where
+    begun : n ≡ 0
+    begun = omega arith
 
-abbrev short_ones : List Bytes → Bool
-short_ones [] = true
-short_ones (x ∷ l) = leb (length x) 4 && short_ones l
+    body_symbol : 11 < kind_of_word w → body_in s n w ≡ keyword_of (kind_of_word w) ++ (TAB ∷ name_in s w)
+    unfolding body behind_each
+    body_symbol h =
+        rw (begun, its_kind, lt-leb (kind_of_word w) 9 (omega arith), lt-leb (kind_of_word w) 11 h, its_name, append-nil (name_in s w))
 
-all_short : (l : List Bytes) → short_ones l ≡ true → (k : ℕ) → length (get_or l k []) ≤ 4
-all_short [] h k = omega arith
-all_short (x ∷ l) h zero = leb-true (length x) 4 (and_true_left (leb (length x) 4) (short_ones l) h)
-all_short (x ∷ l) h (suc k) = all_short l (and_true_right (leb (length x) 4) (short_ones l) h) k
+    pub body_unknown : 13 < kind_of_word w → body_in s n w ≡ TAB ∷ name_in s w
+    unfolding keyword_of
+    body_unknown h = body_symbol (omega arith) ∙ rw (get_or-eq_default keywords [] {n = kind_of_word w} h)
 
-pub keyword_short : (k : ℕ) → length (keyword_of k) ≤ 4
-unfolding keyword_of
-keyword_short k = all_short keywords refl k
+    module _ {k : Kind} {key : Bytes} (is : kind_of_word w ≡ number k) (key_is : key ≡ keyword_of (number k)) where
+      pub body_plain : (k ≡ Predicate → ⊥) → (k ≡ Function → ⊥) → (k ≡ Variable → ⊥) → (k ≡ Constant → ⊥) → body_in s n w ≡ key
+      unfolding body behind_each
+      body_plain p f v c =
+          let h = unnamed p f v c in
+          rw (key_is, begun, its_kind, le-leb (kind_of_word w) 9 (omega arith), is) (append-nil (keyword_of (number k)))
 
-pub keyword_none : (k : ℕ) → 14 ≤ k → keyword_of k ≡ []
-unfolding keyword_of
-keyword_none k h = get_or-eq_default keywords [] h
+      pub body_counted : (k ≡ Predicate) ⊎ (k ≡ Function) → body_in s n w ≡ key ++ ((TAB ∷ name_in s w) ++ (TAB ∷ decimal (count_of w)))
+      unfolding body behind_each
+      body_counted p =
+          let h = counted p in
+          let e = ap count (other_word s.text.now s.made.now w (omega arith)) in
+          rw (key_is, begun, its_kind, lt-leb (kind_of_word w) 9 (omega arith), le-leb (kind_of_word w) 11 (omega arith))
+          (rw (its_name, e, append-nil (decimal (count_of w)), is))
+
+      pub body_named : (k ≡ Variable) ⊎ (k ≡ Constant) → body_in s n w ≡ key ++ (TAB ∷ name_in s w)
+      body_named p = let h = named p in body_symbol (omega arith) ∙ rw (key_is, is)
 
 -- The end of a line.
 pub end_none : (n : ℕ) → 0 < n → end n ≡ []
@@ -114,18 +135,3 @@ end_none (suc n) h = refl
 pub end_line : (n : ℕ) → n ≡ 0 → end n ≡ LF ∷ []
 unfolding end
 end_line n e = rw e
-
--- A run of words read to its end or to the end of the table.
-pub clipped : (from to : ℕ) (ns : List ℕ) → slice from (min to (length ns)) ns ≡ slice from to ns
-clipped from to ns =
-    by_cases (leb to (length ns))
-    (λ t. rw (min-eq_left (leb-true to (length ns) t)))
-    (λ f.
-    let h = leb-false to (length ns) f in
-    rw (min-eq_right (le_of_lt h)) (ap (drop from) (take-length ns ∙ sym (take_all to ns (le_of_lt h)))))
-
-pub one_node : (T M : Bytes) (ns : List ℕ) (i e n m : ℕ) → i < e → e ≤ length ns → m ≡ after n (token T M (get_or ns i 0))
-    → text_from n (tokens T M (slice i e ns))
-    ≡ (body n (token T M (get_or ns i 0)) ++ end m) ++ text_from m (tokens T M (slice (i + 1) e ns))
-unfolding text_from
-one_node T M ns i e n m h k a = rw (slice-cons i e ns 0 h k, a, add-one i)

@@ -1,7 +1,7 @@
 -- Decimal digits one by one: how many steps `digits` may take does not matter once it is enough, so a number's digits are those of its
 -- tenth and then its last one.
-use Rattle.std.specs.Prelude.{◌≡◌, [], ◌∷◌, ◌++◌, ℕ, zero, suc, ◌+◌, ◌/◌, ◌%◌, ◌≤◌, ◌<◌, ltb, length}
-use Rattle.std.proofs.Common.{◌∙◌, ap, arith, ltb-false, lt-ltb, le-ltb, length-append}
+use Rattle.std.specs.Prelude.{◌≡◌, [], ◌∷◌, ◌++◌, ℕ, zero, suc, ◌+◌, ◌*◌, ◌^◌, ◌/◌, ◌%◌, ◌≤◌, ◌<◌, ltb, length}
+use Rattle.std.proofs.Common.{◌∙◌, ap, arith, ltb-false, lt-ltb, le-ltb, length-append, pow-suc}
 use Rattle.definitions.specs.Bytes.{Bytes, digits, decimal}
 use Rattle.definitions.proofs.Laws.Bools.{by_cases}
 
@@ -38,3 +38,17 @@ decimal_length n = omega (arith, digits_length (suc n) n)
 -- one digit more than its tenth
 pub length_more : (n : ℕ) → 10 ≤ n → length (decimal n) ≡ length (decimal (n / 10)) + 1
 length_more n h = ap length (decimal_more n h) ∙ length-append (decimal (n / 10)) ((48 + n % 10) ∷ [])
+
+one_ten : (k : ℕ) → 0 < 10 ^ k
+one_ten zero = omega arith
+one_ten (suc k) = omega (arith, pow-suc 10 k, one_ten k)
+
+-- one digit more than the highest power of ten within the number
+pub decimal_power : (k n : ℕ) → 10 ^ k ≤ n → n < 10 * 10 ^ k → length (decimal n) ≡ k + 1
+decimal_power zero n h l = ap length (decimal_one n (omega arith))
+decimal_power (suc k) n h l =
+    let p = 10 ^ k in
+    let e : 10 ^ suc k ≡ 10 * p = omega (arith, pow-suc 10 k) in
+    let above : p ≤ n / 10 = omega arith in
+    let below : n / 10 < 10 * p = omega arith in
+    omega (arith, length_more n (omega (arith, one_ten k)), decimal_power k (n / 10) above below)

@@ -29,6 +29,13 @@ wrote_both {o} {o₁} {o₂} {s} {t} {at} {n} {n₁} p q =
       size = q.size ∙ p.size;
     }
 
+-- the room for the first of two, and behind it for the second
+pub head_room : (at : ℕ) {n : ℕ} (s t : Bytes) → at + length (s ++ t) ≤ n → at + length s ≤ n
+head_room at s t h = omega (arith, length-append s t)
+
+pub rest_room : {o o₁ s : Bytes} {at n : ℕ} (t : Bytes) → at + length (s ++ t) ≤ length o → Wrote o at s o₁ n → n + length t ≤ length o₁
+rest_room {s = s} t h w = omega (arith, length-append s t, w.ends, w.size)
+
 -- what out holds then
 pub wrote_is : {o o₁ s : Bytes} {at n : ℕ} → Wrote o at s o₁ n → o₁ ≡ take at o ++ (s ++ drop (at + length s) o)
 wrote_is {o} {o₁} {s} {at} {n} p =
@@ -49,3 +56,10 @@ puts_size {o} {s} {o₁} {at} {n} p =
     by_cases (leb (at + length s) (length o))
     (λ t. (p.room (leb-true (at + length s) (length o) t)).size)
     (λ f. ap length (p.none (leb-false (at + length s) (length o) f)).1)
+
+-- Behind what was written, and one behind another, where there is room for both.
+pub wrote_then : {o o₁ o₂ s t : Bytes} {at n n₁ : ℕ} → at + length (s ++ t) ≤ length o → Wrote o at s o₁ n → Puts o₁ n t o₂ n₁ → Wrote o at (s ++ t) o₂ n₁
+wrote_then {t = t} h w p = wrote_both w (p.room (rest_room t h w))
+
+pub puts_both : {o o₁ o₂ s t : Bytes} {at n n₁ : ℕ} → at + length (s ++ t) ≤ length o → Puts o at s o₁ n → Puts o₁ n t o₂ n₁ → Wrote o at (s ++ t) o₂ n₁
+puts_both {s = s} {t = t} {at = at} h p q = wrote_then h (p.room (head_room at s t h)) q

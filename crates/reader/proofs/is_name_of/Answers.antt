@@ -1,38 +1,42 @@
--- The first byte is tested apart; the rest is a name's if the skipping of its bytes comes to the end.
-use borrow.Author.Rules.{rules}
-use borrow.Author.Tests.{le-leb, lt-leb, ne_eqb}
-use mathlib.Core.Path.{sym, ap, ◌∙◌}
-use lib.ListN.{length}
-use Rattle.definitions.specs.Bytes.{skip}
-use Rattle.definitions.specs.RuleText.{tick, behind}
-use Rattle.reader.specs.Lines.{among}
-use Rattle.reader.proofs.Pieces.{name_none, name_parts, name_ends}
+-- The first byte is tested apart; behind it stand bytes of the manner's set, which are skipped.
+use Rattle.std.proofs.Common.{ℕ, ◌-◌, take, ◌≡◌, sym, ap, ◌∙◌, not, length, drop, List, rules, tests}
+use Rattle.std.proofs.lemmas.Iterator.{YieldsList-from_slice}
+use Rattle.std.proofs.lemmas.Iterator.Search.{all_from_yields_List, position_from_yields_List}
+use Rattle.definitions.specs.Bytes.{null, skip}
+use Rattle.definitions.specs.RuleText.{tick, word, hashed, behind}
+use Rattle.reader.proofs.Pieces.{first_place, all_skipped, skipped, name_rest, rest_of, other_manner}
 use Rattle.reader.proofs.is_name_of.Goals as goal
 
-pub returns-then-s-eq0 : goal.returns-then-s-eq0
-unfolding among behind
-returns-then-s-eq0 c = name_none _ _ c.if-s-eq0.true
+pub returns-in-Variable : goal.returns-in-Variable
+unfolding behind tick
+returns-in-Variable c =
+    let r = drop 1 c.args.s.now in
+    let p = position_from_yields_List (λ (x : ℕ). not (word x)) _ _ c.position.result c.position.ensures.ran
+    (YieldsList-from_slice r (c.iter.ensures.rest ∙ rest_of _ 1)) (λ x b q k. search (rules, tests)) in
+    let e = c.unwrap_or-end.ensures ∙ first_place (λ (x : ℕ). not (word x)) r _ _ p (ap length (rest_of c.args.s.now 1)) in
+    let s = drop c.unwrap_or-end.result r in
+    let z = c.iter-in-Variable.ensures.rest ∙ rest_of (take (length c.args.s.now - 1) r) c.unwrap_or-end.result
+    ∙ ap (drop c.unwrap_or-end.result) (rest_of c.args.s.now 1) in
+    let a = all_from_yields_List tick _ _ c.all.result c.all.ensures.ran (YieldsList-from_slice s z) (λ x b q k. search (rules, tests)) in
+    let w : s ≡ skip word r = ap (λ (n : ℕ). drop n r) e ∙ sym (skipped word r) in
+    a ∙ sym (all_skipped tick s) ∙ ap (λ (x : List ℕ). null (skip tick x)) w
+    ∙ rw c.in-Variable.is (name_rest _ _ c.in-len1-up.len_at_least c.if-s-gt-NAME.false (sym c.is_letter.ensures ∙ c.if-not-is_letter.false))
 
-pub returns-then-s-gt-NAME : goal.returns-then-s-gt-NAME
-unfolding among behind
-returns-then-s-gt-NAME c = sym (name_parts _ _ (search rules) ∙ rw (lt-leb _ 24 c.if-s-gt-NAME.true))
+pub returns-in-Predicate : goal.returns-in-Predicate
+unfolding behind
+returns-in-Predicate c =
+    let r = drop 1 c.args.s.now in
+    let a = all_from_yields_List word _ _ c.all-in-Predicate.result c.all-in-Predicate.ensures.ran
+    (YieldsList-from_slice r (c.iter-in-Predicate.ensures.rest ∙ rest_of _ 1)) (λ x b q k. search (rules, tests)) in
+    a ∙ sym (all_skipped word r)
+    ∙ rw c.in-Predicate.is (name_rest _ _ c.in-len1-up.len_at_least c.if-s-gt-NAME.false (sym c.is_letter.ensures ∙ c.if-not-is_letter.false))
 
-pub returns-then-not-is_letter : goal.returns-then-not-is_letter
-unfolding among behind
-returns-then-not-is_letter c =
-    let s = c.args.s.now in sym (name_parts _ s (search rules) ∙ rw (le-leb (length s) 24 (search rules), sym c.is_letter.ensures ∙ c.if-not-is_letter.true))
-
-pub returns-then-kind-eq-VAR : goal.returns-then-kind-eq-VAR
-unfolding among behind
-returns-then-kind-eq-VAR c =
-    name_ends _ _ _ (search rules) (search rules) (sym c.is_letter.ensures ∙ c.if-not-is_letter.false) c.past-m.ensures.1 (rw c.if-kind-eq-VAR.true (c.past-m.ensures.0 ∙ ap (skip tick) c.past-n.ensures.0))
-
-pub returns-then-kind-eq-PRED : goal.returns-then-kind-eq-PRED
-unfolding among behind
-returns-then-kind-eq-PRED c =
-    name_ends _ _ _ (search rules) (search rules) (sym c.is_letter.ensures ∙ c.if-not-is_letter.false) c.past-n-then-kind-eq-PRED.ensures.1 (rw c.if-kind-eq-PRED.true c.past-n-then-kind-eq-PRED.ensures.0)
-
-pub returns : goal.returns
-unfolding among behind
-returns c =
-    name_ends _ _ _ (search rules) (search rules) (sym c.is_letter.ensures ∙ c.if-not-is_letter.false) c.past-n-2.ensures.1 (rw (ne_eqb _ 12 c.if-kind-eq-VAR.false, ne_eqb _ 10 c.if-kind-eq-PRED.false) c.past-n-2.ensures.0)
+pub returns-in_default-kind : goal.returns-in_default-kind
+unfolding behind
+returns-in_default-kind c =
+    let r = drop 1 c.args.s.now in
+    let a = all_from_yields_List hashed _ _ c.all-in_default-kind.result c.all-in_default-kind.ensures.ran
+    (YieldsList-from_slice r (c.iter-in_default-kind.ensures.rest ∙ rest_of _ 1)) (λ x b q k. search (rules, tests)) in
+    a ∙ sym (all_skipped hashed r)
+    ∙ rw (other_manner _ c.in_default-kind.not-Variable c.in_default-kind.not-Predicate)
+    (name_rest _ _ c.in-len1-up.len_at_least c.if-s-gt-NAME.false (sym c.is_letter.ensures ∙ c.if-not-is_letter.false))

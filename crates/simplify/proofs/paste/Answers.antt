@@ -1,13 +1,12 @@
--- `simplify::paste` meets its contract. The loop's invariant: what was written is the beginning of the list.
-use native.Mathlib.Omega.{arith}
-use Rattle.simplify.proofs.Pasting.{paste_starts, paste_on, pasted}
+-- `simplify::paste` meets its contract.
+use Rattle.std.specs.Prelude.{◌≡◌, ◌+◌, ◌-◌, refl, length}
+use Rattle.std.proofs.Common.{arith}
+use Rattle.std.proofs.lemmas.Slice.{put_mid-paste}
+use Rattle.simplify.proofs.Moving.{pasted}
 use Rattle.simplify.proofs.paste.Goals as goal
 
-pub loop-i-init : goal.loop-i-init
-loop-i-init c = paste_starts
-
-pub loop-i-preserved : goal.loop-i-preserved
-loop-i-preserved c = paste_on c.loop-i.invariant (omega arith) (omega arith)
-
 pub returns : goal.returns
-returns c = pasted c.loop-i.invariant (omega arith)
+returns c =
+    let n = length c.args.words.now in
+    let k : n ≡ c.args.at + n - c.args.at = omega arith in
+    rw (put_mid-paste c.args.at (c.args.at + n - c.args.at) c.args.out.now c.copy_from_slice.new.self c.args.words.now n c.copy_from_slice.ensures.after k refl) (pasted (omega arith))

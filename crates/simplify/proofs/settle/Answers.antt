@@ -1,28 +1,25 @@
--- `simplify::settle` meets its contract, law by law.
-use native.Mathlib.Omega.{arith}
-use mathlib.Core.Path.{refl, ap}
-use Rattle.definitions.specs.Syntax.{top, bot}
+-- `simplify::settle` meets its contract.
+use Rattle.std.proofs.Common.{arith, refl}
 use Rattle.text.specs.Words.{code}
+use Rattle.definitions.specs.Syntax.{top, bot}
 use Rattle.simplify.specs.Parts.{settled}
-use Rattle.simplify.proofs.Moving.{becomes_itself, becomes_as, becomes_constant}
-use Rattle.simplify.specs.declared.Law.{Law}
+use Rattle.simplify.proofs.Moving.{becomes_itself, becomes_constant}
 use Rattle.simplify.proofs.settle.Goals as goal
 
 pub returns-in-Other : goal.returns-in-Other
-unfolding settled code
-returns-in-Other c =
-    becomes_itself (omega arith) (omega arith) (omega arith) (λ f. ap (λ (l : Law). settled l f) c.in-Other.is) c.shift.ensures
+unfolding settled
+returns-in-Other c = rw c.in-Other.is (becomes_itself (omega arith) (omega arith) (omega arith) (λ f. refl) c.shift.ensures)
 
 pub returns-in-Turned : goal.returns-in-Turned
-unfolding settled code
-returns-in-Turned c = becomes_as (λ f. ap (λ (l : Law). settled l f) c.in-Turned.is) c.turn.ensures
+unfolding settled
+returns-in-Turned c = rw c.in-Turned.is c.turn.ensures
 
 pub returns-in-Top : goal.returns-in-Top
 unfolding settled code
 returns-in-Top c =
-    becomes_constant (omega arith) (omega arith) (omega arith) 0 top refl (λ T M. refl) (λ o T M f e. ap (λ (l : Law). settled l f) c.in-Top.is)
+    rw c.in-Top.is (becomes_constant (omega arith) (omega arith) (omega arith) 0 top refl (λ T M. refl) (λ T M f e. refl) c.put.ensures)
 
 pub returns-in-Bottom : goal.returns-in-Bottom
 unfolding settled code
 returns-in-Bottom c =
-    becomes_constant (omega arith) (omega arith) (omega arith) 1 bot refl (λ T M. refl) (λ o T M f e. ap (λ (l : Law). settled l f) c.in-Bottom.is)
+    rw c.in-Bottom.is (becomes_constant (omega arith) (omega arith) (omega arith) 1 bot refl (λ T M. refl) (λ T M f e. refl) c.put-in-Bottom.ensures)

@@ -1,5 +1,4 @@
 use mathlib.Core.Path.{◌≡◌}
-use Prim.Native.Nat.{◌-◌}
 use lib.ListN.{length}
 use Rattle.stream.specs.Machine.{at}
 use Rattle.stream.proofs.PushLaws.{Running}
@@ -7,7 +6,4 @@ use Rattle.stream.proofs.push.Given as goal
 
 abbrev pub invariant-loop-i : goal.invariant-loop-i
 invariant-loop-i l =
-    Running (at l.initial.s l.initial.kept) l.piece l.from l.s l.kept l.i × (l.out ≡ l.initial.out) × (l.work ≡ l.initial.work) × (length l.kept ≡ length l.initial.kept)
-
-abbrev pub decreases-loop-i : goal.decreases-loop-i
-decreases-loop-i l = length l.piece - l.i
+    Running (at l.initial.now l.initial.kept) l.piece l.from l.now l.kept l.i × (l.out ≡ l.initial.out) × (l.work ≡ l.initial.work) × (length l.kept ≡ length l.initial.kept)

@@ -5,7 +5,7 @@ use Rattle.std.proofs.Math.Path.{refl}
 use Rattle.std.proofs.Common.{sym, ◌∙◌, ap, eqb-true, ltb-true, ltb-false, lt-ltb, length-append, length-set, take-suc-set}
 use Rattle.std.proofs.Math.Bool.{true, false}
 use mathlib.Core.List.{List, [], ◌∷◌, ◌++◌, append_assoc, append-nil}
-use Rattle.std.proofs.Math.Option.{none, some}
+use Rattle.std.proofs.Math.Option.{Option, none, some}
 use Prim.Native.Nat.{ℕ, zero, suc, ◌≤◌, ◌<◌}
 use native.Mathlib.Omega.{arith}
 use Rattle.std.proofs.lemmas.Bool.{eqb-false}
@@ -19,7 +19,7 @@ use Rattle.definitions.proofs.Laws.Bools.{by_cases, and_true_left, and_true_righ
 use Rattle.definitions.proofs.Laws.Sets.{same_eq}
 use Rattle.definitions.specs.Laws.Pieces.{Clear}
 use Rattle.definitions.proofs.Laws.Pieces.{clear_append}
-use Rattle.stream.specs.Machine.{room, Machine, matches, complete, second_line, refused_file, first_line, chosen, grown, step, second_step, first_step, due_print, last_print, opened, print_bytes, conversion_found, number_of, longest_first, run}
+use Rattle.stream.specs.Machine.{room, Machine, matches, complete, second_line, refused_file, first_line, chosen, grown, step, second_step, first_step, due_print, last_print, opened, print_bytes, longest_first, run}
 use Rattle.stream.specs.Feeding.{told, streams, begun, behind, through, fed, joined}
 use Rattle.stream.specs.Laws.Rules.{line_of, after_line, line_at, pending, cut_line, line_ends, line_matches, rule_begins, line_misses}
 use Rattle.stream.specs.Laws.Labels.{line_of_clear, after_line_clear, not_clear}
@@ -36,22 +36,22 @@ null_more : (s r : Bytes) (b : ℕ) → null (s ++ (b ∷ r)) ≡ false
 null_more [] r b = refl
 null_more (x ∷ s) r b = refl
 
-second_ends : (c k : ℕ) (kept : Bytes) → k < 5 → streams (record { state = second_line c k; kept = kept }) [] ≡ file_output house (conversion_found c) (record { before = pending k; rules = [] })
+second_ends : (c : Conversion) (k : ℕ) (kept : Bytes) → k < 5 → streams (record { state = second_line c k; kept = kept }) [] ≡ file_output house c (record { before = pending k; rules = [] })
 unfolding streams last_print print_bytes rules_output
-second_ends c zero kept h = sym (append-nil (field_line done_word (conversion_word (conversion_found c))))
+second_ends c zero kept h = sym (append-nil (field_line done_word (conversion_word c)))
 second_ends c (suc zero) kept h = refl
 second_ends c (suc (suc zero)) kept h = refl
 second_ends c (suc (suc (suc zero))) kept h = refl
 second_ends c (suc (suc (suc (suc zero)))) kept h = refl
 second_ends c (suc (suc (suc (suc (suc k))))) kept h = absurd (omega arith)
 
-second_rule : (c : ℕ) (kept s : Bytes) → room ≤ length kept → streams (record { state = second_line c 4; kept = kept }) (TAB ∷ s) ≡ file_output house (conversion_found c) (line_at 4 (TAB ∷ s))
+second_rule : (c : Conversion) (kept s : Bytes) → room ≤ length kept → streams (record { state = second_line c 4; kept = kept }) (TAB ∷ s) ≡ file_output house c (line_at 4 (TAB ∷ s))
 unfolding streams due_print print_bytes
 second_rule c kept s r = rw (rule_begins s, (rule_streams s).label c 0 kept [] r refl refl (omega arith) tt)
 
-second_streams : (s : Bytes) (c k : ℕ) (kept : Bytes) → k < 5 → room ≤ length kept → streams (record { state = second_line c k; kept = kept }) s ≡ file_output house (conversion_found c) (line_at k s)
+second_streams : (s : Bytes) (c : Conversion) (k : ℕ) (kept : Bytes) → k < 5 → room ≤ length kept → streams (record { state = second_line c k; kept = kept }) s ≡ file_output house c (line_at k s)
 unfolding streams step second_step
-second_streams [] c k kept few r = second_ends c k kept few ∙ ap (file_output house (conversion_found c)) (sym (line_ends k (omega arith)))
+second_streams [] c k kept few r = second_ends c k kept few ∙ ap (file_output house c) (sym (line_ends k (omega arith)))
 second_streams (b ∷ s) c k kept few r =
     by_cases (eqb k 4 && eqb b TAB)
     (λ t. rw (eqb-true k 4 (and_true_left (eqb k 4) (eqb b TAB) t), eqb-true b TAB (and_true_right (eqb k 4) (eqb b TAB) t)) (second_rule c kept s r))
@@ -60,10 +60,10 @@ second_streams (b ∷ s) c k kept few r =
     (λ n. rw (f, n, line_misses k b s (omega arith) n, null_more (pending k) (line_at (cond (eqb b LF) 0 5) s).before b) (refused_streams s kept)))
 
 -- The first line. One without LF, or of more than eleven bytes before it, names no conversion.
-abbrev do_line : Conversion → Bytes
+abbrev pub do_line : Conversion → Bytes
 do_line c = field_line do_word (conversion_word c)
 
-no_conversion : (l : Bytes) → ((c : Conversion) → l ≡ do_line c → ⊥) → (cs : List Conversion) → conversion_of cs l ≡ none
+pub no_conversion : (l : Bytes) → ((c : Conversion) → l ≡ do_line c → ⊥) → (cs : List Conversion) → conversion_of cs l ≡ none
 unfolding conversion_of
 no_conversion l h [] = refl
 no_conversion l h (c ∷ cs) =
@@ -99,32 +99,9 @@ first_ends (x ∷ l) h =
     ∙ ap (λ s. of_lines house (s ∷ cut (after_line (x ∷ l)))) (ap line_of (sym (append-nil (x ∷ l))) ∙ line_of_clear (x ∷ l) [] h ∙ append-nil (x ∷ l))
     ∙ rw (unended_none (x ∷ l) h)
 
--- the conversion that a first line names is that at its place
-module _ (l : Bytes) (d : Conversion) where
-  named_at : (cs : List Conversion) → number_of cs l < length cs → conversion_of cs l ≡ some (get_or cs (number_of cs l) d)
-  unfolding number_of conversion_of
-  named_at [] h = absurd (omega arith)
-  named_at (c ∷ cs) h = by_cases (same l (do_line c)) (λ t. rw t) (λ f. rw f (named_at cs (lower f h)))
-    where
-      lower : same l (do_line c) ≡ false → number_of (c ∷ cs) l < suc (length cs) → number_of cs l < length cs
-      lower f k = let e : number_of (c ∷ cs) l ≡ suc (number_of cs l) = rw f in omega arith
-
-  none_at : (cs : List Conversion) → length cs ≤ number_of cs l → conversion_of cs l ≡ none
-  unfolding number_of conversion_of
-  none_at [] h = refl
-  none_at (c ∷ cs) h = by_cases (same l (do_line c)) (λ t. absurd (first t h)) (λ f. rw f (none_at cs (lower f h)))
-    where
-      first : same l (do_line c) ≡ true → suc (length cs) ≤ number_of (c ∷ cs) l → ⊥
-      first t k = let e : number_of (c ∷ cs) l ≡ 0 = rw t in omega arith
-
-      lower : same l (do_line c) ≡ false → suc (length cs) ≤ number_of (c ∷ cs) l → length cs ≤ number_of cs l
-      lower f k = let e : number_of (c ∷ cs) l ≡ suc (number_of cs l) = rw f in omega arith
-
-chosen_streams : (l s kept : Bytes) → room ≤ length kept → streams (record { state = chosen (number_of conversions l); kept = kept }) s ≡ after_first house (conversion_of conversions l) (cut s)
-chosen_streams l s kept r =
-    by_cases (ltb (number_of conversions l) (length conversions))
-    (λ t. rw (t, named_at l to_simplified conversions (ltb-true (number_of conversions l) (length conversions) t)) (second_streams s (number_of conversions l) 0 kept (omega arith) r))
-    (λ f. rw (f, none_at l to_simplified conversions (ltb-false (number_of conversions l) (length conversions) f)) (refused_streams s kept))
+chosen_streams : (o : Option Conversion) (s kept : Bytes) → room ≤ length kept → streams (record { state = chosen o; kept = kept }) s ≡ after_first house o (cut s)
+chosen_streams none s kept r = refused_streams s kept
+chosen_streams (some c) s kept r = second_streams s c 0 kept (omega arith) r
 
 first_named : (l : Bytes) (b : ℕ) (s : Bytes) → Clear LF l → eqb b LF ≡ true → program house (l ++ (b ∷ s)) ≡ after_first house (conversion_of conversions (l ++ (LF ∷ []))) (cut s)
 unfolding program line_of after_line
@@ -142,7 +119,7 @@ unfolding streams step first_step last_print print_bytes
 first_streams [] size kept l r e n few h = sym (rw (append-nil l) (first_ends l h))
 first_streams (b ∷ s) size kept l r e n few h =
     by_cases (eqb b LF)
-    (λ t. rw t (rw e (chosen_streams (l ++ (LF ∷ [])) s kept r ∙ sym (first_named l b s h t))))
+    (λ t. rw t (rw e (chosen_streams (conversion_of conversions (l ++ (LF ∷ []))) s kept r ∙ sym (first_named l b s h t))))
     (λ f. by_cases (ltb size longest_first)
     (λ t. rw (f, t) (goes_on f (ltb-true size longest_first t) (first_streams s)))
     (λ g. rw (f, g) (refused_streams s kept ∙ sym (first_long l b s h (omega (arith, ltb-false size longest_first g)) f))))
@@ -166,7 +143,7 @@ unfolding through run print_bytes
 run_through m [] = refl
 run_through m (b ∷ s) = by_cases (complete m.state b) (λ t. rw t) (λ f. rw (f, run_through (step m b) s))
 
-streams_through : (m : Machine) (p s : Bytes) → streams m (p ++ s) ≡ (through m p).output ++ streams (through m p).machine s
+pub streams_through : (m : Machine) (p s : Bytes) → streams m (p ++ s) ≡ (through m p).output ++ streams (through m p).machine s
 unfolding streams through
 streams_through m [] s = refl
 streams_through m (b ∷ p) s =

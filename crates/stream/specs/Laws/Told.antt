@@ -8,32 +8,32 @@ use Rattle.std.proofs.Math.ListN.{length-set}
 use Rattle.definitions.specs.Bytes.{Bytes, TAB, LF}
 use Rattle.definitions.specs.Limits.{house}
 use Rattle.definitions.specs.RuleText.{simple_name, is_name}
-use Rattle.definitions.specs.Convert.{convert}
+use Rattle.definitions.specs.Convert.{Conversion, convert}
 use Rattle.definitions.specs.Program.{Parts, cut, parts, rule_word, field_line, printed, good_label, label, rule_output, rules_output}
 use Rattle.definitions.proofs.Laws.Bools.{by_cases, clash, and_true_left, and_true_right}
 use Rattle.definitions.specs.Laws.Pieces.{Clear}
 use Rattle.definitions.proofs.Laws.Pieces.{clear_append}
-use Rattle.stream.specs.Machine.{room, rule_print, rule_tab, matches, next_matched, in_text, in_label, grown, step, text_step, label_step, due_print, last_print, print_bytes, rule_bytes, name_kept, text_kept, longest_label, conversion_found}
+use Rattle.stream.specs.Machine.{room, rule_print, rule_tab, matches, next_matched, in_text, in_label, grown, step, text_step, label_step, due_print, last_print, print_bytes, rule_bytes, name_kept, text_kept, longest_label, labelled}
 use Rattle.stream.specs.Feeding.{told, streams}
 use Rattle.stream.specs.Laws.Rules.{line_of, after_line, line_at, first_rule, pending, line_ends, line_matches, rule_begins, line_misses}
 use Rattle.stream.specs.Laws.Held.{Held, held_first, held_byte, held_all, held_but}
 use Rattle.stream.specs.Laws.Labels.{line_of_clear, after_line_clear, clear_tab, unended_bad, long_bad, label_is, good_is}
 
 -- what a rule prints
-abbrev pub ruled : Bool → Bytes → ℕ → Bytes → Bytes
-ruled good name c text = rule_bytes good name (printed (convert house (conversion_found c) text))
+abbrev pub ruled : Bool → Bytes → Conversion → Bytes → Bytes
+ruled good name c text = rule_bytes good name (printed (convert house c text))
 
-abbrev pub rules : ℕ → Parts → Bytes
-rules c p = rules_output house (conversion_found c) p.rules
+abbrev pub rules : Conversion → Parts → Bytes
+rules c p = rules_output house c p.rules
 
 pub record RuleStreams (s : Bytes) : Type 0 where
-  pub text : (c k label size : ℕ) (good : Bool) (kept name v : Bytes) → k ≤ 5 → room ≤ length kept → (good ≡ true → Held kept label size name (v ++ pending k))
+  pub text : (c : Conversion) (k label size : ℕ) (good : Bool) (kept name v : Bytes) → k ≤ 5 → room ≤ length kept → (good ≡ true → Held kept label size name (v ++ pending k))
       → streams (record { state = in_text c good k label size; kept = kept }) s ≡ ruled good name c (v ++ (line_at k s).before) ++ rules c (line_at k s)
-  pub label : (c size : ℕ) (kept name : Bytes) → room ≤ length kept → take size kept ≡ name → length name ≡ size → size ≤ longest_label → Clear LF name
+  pub label : (c : Conversion) (size : ℕ) (kept name : Bytes) → room ≤ length kept → take size kept ≡ name → length name ≡ size → size ≤ longest_label → Clear LF name
       → streams (record { state = in_label c size; kept = kept }) s ≡ rules c (first_rule (rule_tab ++ (name ++ s)))
 
 -- a rule is printed as its whole text would be
-rule_told : (good : Bool) (c : ℕ) (name' name x v : Bytes) → (good ≡ true → (name' ≡ name) × (convert house (conversion_found c) x ≡ convert house (conversion_found c) v))
+rule_told : (good : Bool) (c : Conversion) (name' name x v : Bytes) → (good ≡ true → (name' ≡ name) × (convert house c x ≡ convert house c v))
     → told (rule_print c good name' x) ≡ ruled good name c v
 unfolding print_bytes
 rule_told true c name' name x v h = rw ((h refl).0, (h refl).1)
@@ -60,29 +60,29 @@ pending_none : (b : Bool) → pending (cond b 0 5) ≡ []
 pending_none true = refl
 pending_none false = refl
 
-text_ends : (c k label size : ℕ) (good : Bool) (kept name v : Bytes) → k ≤ 5 → (good ≡ true → Held kept label size name (v ++ pending k))
+text_ends : (c : Conversion) (k label size : ℕ) (good : Bool) (kept name v : Bytes) → k ≤ 5 → (good ≡ true → Held kept label size name (v ++ pending k))
     → streams (record { state = in_text c good k label size; kept = kept }) [] ≡ ruled good name c (v ++ (line_at k []).before) ++ rules c (line_at k [])
 unfolding streams last_print rules_output
 text_ends c k label size good kept name v few h =
     rw (line_ends k few)
     (rule_told good c (name_kept kept label) name (text_kept kept label size) (v ++ pending k)
-    (λ t. ((h t).named, held_all kept label size name (v ++ pending k) (conversion_found c) (h t)))
+    (λ t. ((h t).named, held_all kept label size name (v ++ pending k) c (h t)))
     ∙ sym (append-nil (ruled good name c (v ++ pending k))))
 
 -- `rule` TAB is complete
-text_rule : (c label size : ℕ) (good : Bool) (kept name v s : Bytes) → room ≤ length kept → RuleStreams s → (good ≡ true → Held kept label size name (v ++ pending 4))
+text_rule : (c : Conversion) (label size : ℕ) (good : Bool) (kept name v s : Bytes) → room ≤ length kept → RuleStreams s → (good ≡ true → Held kept label size name (v ++ pending 4))
     → streams (record { state = in_text c good 4 label size; kept = kept }) (TAB ∷ s) ≡ ruled good name c (v ++ (line_at 4 (TAB ∷ s)).before) ++ rules c (line_at 4 (TAB ∷ s))
 unfolding streams due_print
 text_rule c label size good kept name v s r ih h =
     rw (
       rule_begins s,
       append-nil v,
-      rule_told good c (name_kept kept label) name (text_kept kept label (size - 4)) v (λ t. ((h t).named, held_but kept label size name v (pending 4) (conversion_found c) refl (h t))),
+      rule_told good c (name_kept kept label) name (text_kept kept label (size - 4)) v (λ t. ((h t).named, held_but kept label size name v (pending 4) c refl (h t))),
       ih.label c 0 kept [] r refl refl (omega arith) tt,
     )
 
 -- a byte of the text, by whether it goes on with `rule`
-module _ (c k b label size : ℕ) (kept name v s : Bytes) (few : k ≤ 5) (r : room ≤ length kept) (ih : RuleStreams s) where
+module _ (c : Conversion) (k b label size : ℕ) (kept name v s : Bytes) (few : k ≤ 5) (r : room ≤ length kept) (ih : RuleStreams s) where
   misses_text : (v ++ pending k) ++ (b ∷ []) ≡ ((v ++ pending k) ++ (b ∷ [])) ++ pending (cond (eqb b LF) 0 5)
   misses_text = sym (rw (pending_none (eqb b LF)) (append-nil ((v ++ pending k) ++ (b ∷ []))))
 
@@ -110,12 +110,12 @@ module _ (c k b label size : ℕ) (kept name v s : Bytes) (few : k ≤ 5) (r : r
   text_byte false h f = text_on false kept size r (λ g. clash g refl) f
 
 -- The label. At its LF it is good just when it is a name; without an LF, or too long, it is bad.
-rule_is : (c : ℕ) (head text : Bytes) (p : Parts) → good_label house head ≡ false
-    → rules_output house (conversion_found c) (record { head = head; text = text } ∷ p.rules) ≡ ruled false [] c [] ++ rules c p
+rule_is : (c : Conversion) (head text : Bytes) (p : Parts) → good_label house head ≡ false
+    → rules_output house c (record { head = head; text = text } ∷ p.rules) ≡ ruled false [] c [] ++ rules c p
 unfolding rules_output rule_output
 rule_is c head text p f = rw f
 
-label_ends : (c size : ℕ) (kept name : Bytes) → Clear LF name → streams (record { state = in_label c size; kept = kept }) [] ≡ rules c (first_rule (rule_tab ++ (name ++ [])))
+label_ends : (c : Conversion) (size : ℕ) (kept name : Bytes) → Clear LF name → streams (record { state = in_label c size; kept = kept }) [] ≡ rules c (first_rule (rule_tab ++ (name ++ [])))
 unfolding streams last_print print_bytes parts cut rules_output line_of after_line
 label_ends c size kept name h =
     sym (rw (append-nil name)
@@ -131,17 +131,18 @@ label_ends c size kept name h =
     bad : good_label house (line_of (rule_tab ++ name)) ≡ false
     bad = rw (line_whole (rule_tab ++ name) (clear_tab name h)) (unended_bad (rule_tab ++ name) (clear_tab name h))
 
-label_line : (c size : ℕ) (kept name s : Bytes) → room ≤ length kept → take size kept ≡ name → length name ≡ size → size ≤ longest_label → Clear LF name → RuleStreams s
-    → streams (record { state = in_text c (is_name house simple_name (take size kept)) 0 size size; kept = kept }) s ≡ rules c (first_rule (rule_tab ++ (name ++ (LF ∷ s))))
+label_line : (c : Conversion) (size : ℕ) (kept name s : Bytes) → room ≤ length kept → take size kept ≡ name → length name ≡ size → size ≤ longest_label → Clear LF name → RuleStreams s
+    → streams (record { state = labelled c (is_name house simple_name (take size kept)) size; kept = kept }) s ≡ rules c (first_rule (rule_tab ++ (name ++ (LF ∷ s))))
 unfolding rules_output rule_output line_of after_line
 label_line c size kept name s r e n few h ih =
     let line : line_of (rule_tab ++ (name ++ (LF ∷ s))) ≡ field_line rule_word name = line_of_clear (rule_tab ++ name) (LF ∷ s) (clear_tab name h) in
     let rest : after_line (rule_tab ++ (name ++ (LF ∷ s))) ≡ s = after_line_clear (rule_tab ++ name) (LF ∷ s) (clear_tab name h) in
     let short : length name ≤ longest_label = omega arith in
     rw (line, rest, good_is name h short, label_is name h short, e)
-    (ih.text c 0 size size (is_name house simple_name name) kept name [] (omega arith) r (λ t. held_first kept name size r few e))
+    (let good = is_name house simple_name name in
+    ih.text c 0 (cond good size 0) (cond good size 0) good kept name [] (omega arith) r (λ t. rw t (held_first kept name size r few e)))
 
-label_byte : (c size b : ℕ) (kept name s : Bytes) → room ≤ length kept → take size kept ≡ name → length name ≡ size → size < longest_label → Clear LF name → eqb b LF ≡ false → RuleStreams s
+label_byte : (c : Conversion) (size b : ℕ) (kept name s : Bytes) → room ≤ length kept → take size kept ≡ name → length name ≡ size → size < longest_label → Clear LF name → eqb b LF ≡ false → RuleStreams s
     → streams (record { state = in_label c (grown size kept); kept = set kept size b }) s ≡ rules c (first_rule (rule_tab ++ (name ++ (b ∷ s))))
 label_byte c size b kept name s r e n few h f ih =
     let fits : size < length kept = omega arith in
@@ -151,7 +152,7 @@ label_byte c size b kept name s r e n few h f ih =
     rw (lt-ltb size (length kept) fits, again)
     (ih.label c (suc size) (set kept size b) (name ++ (b ∷ [])) (omega (arith, length-set kept size b)) taken longer few (clear_append LF name (b ∷ []) h (f, tt)))
 
-label_long : (c b : ℕ) (kept name s : Bytes) → room ≤ length kept → longest_label ≤ length name → Clear LF name → eqb b LF ≡ false → RuleStreams s
+label_long : (c : Conversion) (b : ℕ) (kept name s : Bytes) → room ≤ length kept → longest_label ≤ length name → Clear LF name → eqb b LF ≡ false → RuleStreams s
     → streams (record { state = in_text c false 5 0 0; kept = kept }) s ≡ rules c (first_rule (rule_tab ++ (name ++ (b ∷ s))))
 label_long c b kept name s r long h f ih =
     let clear : Clear LF (name ++ (b ∷ [])) = clear_append LF name (b ∷ []) h (f, tt) in
@@ -162,7 +163,7 @@ label_long c b kept name s r long h f ih =
     ih.text c 5 0 0 false kept [] [] (omega arith) r (λ g. clash g refl)
     ∙ sym (rw (again, line, rest) (rule_is c (rule_tab ++ ((name ++ (b ∷ [])) ++ line_of s)) (parts (cut (after_line s))).before (parts (cut (after_line s))) bad))
 
-label_any : (c size b : ℕ) (kept name s : Bytes) → room ≤ length kept → take size kept ≡ name → length name ≡ size → size ≤ longest_label → Clear LF name → RuleStreams s
+label_any : (c : Conversion) (size b : ℕ) (kept name s : Bytes) → room ≤ length kept → take size kept ≡ name → length name ≡ size → size ≤ longest_label → Clear LF name → RuleStreams s
     → streams (step (record { state = in_label c size; kept = kept }) b) s ≡ rules c (first_rule (rule_tab ++ (name ++ (b ∷ s))))
 unfolding step label_step
 label_any c size b kept name s r e n few h ih =

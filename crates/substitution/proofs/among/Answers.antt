@@ -1,21 +1,14 @@
--- `substitution::among` meets its contract. The loop's invariant: whoever looks from where the loop stands finds what there is to be found.
-use native.Mathlib.Omega.{arith}
-use mathlib.Core.Path.{refl, sym, ◌∙◌}
-use Rattle.substitution.proofs.Finding.{found, passed, missing}
+-- `substitution::among` meets its contract.
+use Rattle.std.proofs.Common.{rules, tests, ◌∙◌}
+use Rattle.std.proofs.lemmas.Iterator.{YieldsList-from_slice}
+use Rattle.std.proofs.lemmas.Iterator.Search.{any_from_yields_List}
+use Rattle.definitions.specs.Bytes.{same}
+use Rattle.text.specs.Words.{spell}
+use Rattle.substitution.proofs.Finding.{found}
 use Rattle.substitution.proofs.among.Goals as goal
 
-pub returns-then-to-gt-WEIGHT : goal.returns-then-to-gt-WEIGHT
-returns-then-to-gt-WEIGHT c = λ l. absurd (omega arith)
-
-pub loop-i-init : goal.loop-i-init
-loop-i-init c = record { on = λ e. refl }
-
-pub returns-then-spelled_same : goal.returns-then-spelled_same
-returns-then-spelled_same c =
-    λ _. found c.loop-i.invariant (omega arith) (omega arith) (sym c.if-spelled_same.true ∙ c.spelled_same.ensures)
-
-pub loop-i-preserved : goal.loop-i-preserved
-loop-i-preserved c = passed c.loop-i.invariant (omega arith) (omega arith) (sym c.if-spelled_same.false ∙ c.spelled_same.ensures)
-
 pub returns : goal.returns
-returns c = λ _. missing c.loop-i.invariant (omega arith) (omega arith)
+returns c =
+    any_from_yields_List (λ w. same (spell c.args.spellings.text.now c.args.spellings.made.now c.args.word) (spell c.args.spellings.text.now c.args.spellings.made.now w)) _ _ _ c.any.ensures.ran
+    (YieldsList-from_slice _ c.iter.ensures.rest) (λ x b q k. search (rules, tests))
+    ∙ found c.args.spellings.text.now c.args.spellings.made.now c.args.word _

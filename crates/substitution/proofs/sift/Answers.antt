@@ -1,23 +1,16 @@
--- `substitution::sift` meets its contract. The loop's invariant: what was kept, and what stays of the words not read yet, is what stays of
--- all; the words not read yet are as they were. The measure is what is left of them.
-use native.Mathlib.Omega.{arith}
-use Rattle.substitution.proofs.Sifting.{sift_starts, sift_on, sifted, sifts_nothing}
+-- `substitution::sift` meets its contract. The loop's invariant: of the words read so far those that stay are kept, and the others are as they were.
+use Rattle.std.proofs.Common.{arith, sym, ◌∙◌}
+use Rattle.substitution.proofs.Sifting.{sifting_starts, word_goes, word_stays, sifted}
 use Rattle.substitution.proofs.sift.Goals as goal
 
-pub returns-then-high-gt-WEIGHT : goal.returns-then-high-gt-WEIGHT
-returns-then-high-gt-WEIGHT c = sifts_nothing (λ a b. omega arith)
-
-pub returns-then-to-gt-WEIGHT : goal.returns-then-to-gt-WEIGHT
-returns-then-to-gt-WEIGHT c = sifts_nothing (λ a b. omega arith)
-
 pub loop-next-init : goal.loop-next-init
-loop-next-init c = sift_starts
-
-pub retain-kept-requires : goal.retain-kept-requires
-retain-kept-requires c = let l = c.loop-next.invariant in omega (arith, l.keeps.more, l.behind)
-
-pub loop-next-preserved : goal.loop-next-preserved
-loop-next-preserved c = sift_on c.loop-next.invariant (omega arith) (omega arith) c.retain-kept.ensures
+loop-next-init c = sifting_starts
 
 pub returns : goal.returns
-returns c = sifted c.loop-next.invariant (omega arith) (omega arith)
+returns c = sifted c.loop-next.invariant (omega arith)
+
+pub loop-next-preserved-then-among : goal.loop-next-preserved-then-among
+loop-next-preserved-then-among c = word_goes c.loop-next.invariant (omega arith) (omega arith) (sym c.if-among.true ∙ c.among.ensures)
+
+pub loop-next-preserved : goal.loop-next-preserved
+loop-next-preserved c = word_stays c.loop-next.invariant (omega arith) (omega arith) (sym c.if-among.false ∙ c.among.ensures)

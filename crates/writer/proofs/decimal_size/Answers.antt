@@ -1,12 +1,14 @@
--- The loop keeps that the digits counted, but one, and those of what is left are the number's.
+-- One digit more than the highest power of ten within the number; 0 has one digit too.
 use native.Mathlib.Omega.{arith}
-use mathlib.Core.Path.{ap}
+use mathlib.Core.Path.{sym, ap}
 use lib.ListN.{length}
-use Rattle.writer.specs.DigitLaws.{decimal_one, length_more}
+use Rattle.writer.specs.DigitLaws.{decimal_one, decimal_power}
 use Rattle.writer.proofs.decimal_size.Goals as goal
 
-pub loop-left-preserved : goal.loop-left-preserved
-loop-left-preserved c = let l = c.loop-left in omega (arith, length_more l.left (omega arith))
+pub returns-in-Some : goal.returns-in-Some
+returns-in-Some c =
+    let e = c.in-Some.ensures in
+    (sym (decimal_power c.in-Some.power c.args.n e.power_le e.next_power_gt), omega (arith, e.bound))
 
-pub returns : goal.returns
-returns c = let l = c.loop-left in omega (arith, ap length (decimal_one l.left (omega arith)))
+pub returns-in-None : goal.returns-in-None
+returns-in-None c = (sym (ap length (decimal_one c.args.n (omega (arith, c.in-None.ensures.none)))), omega arith)

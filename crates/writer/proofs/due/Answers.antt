@@ -1,26 +1,17 @@
 -- What is due behind a word, by the same tests as `after` makes on its token.
 use native.Mathlib.Omega.{arith}
-use mathlib.Core.Path.{◌≡◌, sym}
-use Rattle.writer.proofs.Tokens.{after_due, after_plain, after_block, after_symbol}
+use Rattle.writer.proofs.Tokens.{after_due, after_unknown, after_block, after_other}
 use Rattle.writer.proofs.due.Goals as goal
 
 pub returns-then-left-gt0 : goal.returns-then-left-gt0
-returns-then-left-gt0 c = λ T M. let a = c.args in sym (after_due T M a.word a.left c.if-left-gt0.true)
+returns-then-left-gt0 c = λ T M. grind (arith, after_due)
 
-pub returns-then-kind-le7 : goal.returns-then-kind-le7
-returns-then-kind-le7 c =
-    λ T M. let a = c.args in
-    let e : a.left ≡ 0 = omega arith in
-    rw e (sym (after_plain T M a.word c.if-kind-le7.true))
+pub returns-in_default : goal.returns-in_default
+returns-in_default c = λ T M. grind (arith, after_unknown)
 
-pub returns-then-kind-le9 : goal.returns-then-kind-le9
-returns-then-kind-le9 c =
-    λ T M. let a = c.args in
-    let e : a.left ≡ 0 = omega arith in
-    rw e (sym (after_block T M a.word c.if-kind-le7.false c.if-kind-le9.true))
+pub returns-in-All : goal.returns-in-All
+returns-in-All c = λ T M. grind (arith, after_block T M c.args.word c.args.left (omega arith) c.in-Some.ensures c.in-All.is)
 
-pub returns : goal.returns
-returns c =
-    λ T M. let a = c.args in
-    let e : a.left ≡ 0 = omega arith in
-    rw e (sym (after_symbol T M a.word c.if-kind-le9.false))
+pub returns-in_default-kind : goal.returns-in_default-kind
+returns-in_default-kind c =
+    λ T M. grind (arith, after_other T M c.args.word c.args.left (omega arith) c.in-Some.ensures c.in_default-kind.not-All c.in_default-kind.not-Exists)

@@ -1,15 +1,10 @@
+-- The size so far and the length of what is left are the whole length, and the size is within the room.
 use mathlib.Core.Path.{◌≡◌}
-use Prim.Native.Nat.{◌+◌, ◌-◌, ◌≤◌}
+use Prim.Native.Nat.{◌+◌, ◌≤◌}
 use lib.ListN.{length}
-use lib.Seq.{slice}
-use Rattle.text.specs.Words.{tokens}
-use Rattle.writer.specs.Writer.{text_from, text_of}
+use Rattle.writer.specs.Writer.{text_in}
+use Rattle.writer.proofs.Runs.{rest}
 use Rattle.writer.proofs.measure.Given as goal
 
-abbrev pub invariant-loop-i : goal.invariant-loop-i
-invariant-loop-i l =
-    (l.size ≤ l.room) × (l.end ≤ length l.nodes)
-    × (length (text_of (tokens l.text l.made (slice l.from l.to l.nodes))) ≡ l.size + length (text_from l.left (tokens l.text l.made (slice l.i l.end l.nodes))))
-
-abbrev pub decreases-loop-i : goal.decreases-loop-i
-decreases-loop-i l = l.end - l.i
+abbrev pub invariant-loop-word : goal.invariant-loop-word
+invariant-loop-word l = (l.size ≤ l.room) × (length (text_in l.spellings l.words) ≡ l.size + length (rest l.spellings l.words l.left l.word-index))

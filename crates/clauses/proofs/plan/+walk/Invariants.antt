@@ -1,5 +1,5 @@
-use Prim.Native.Nat.{◌-◌}
+use lib.ListN.{length}
 use Rattle.clauses.proofs.plan.+walk.Given as goal
 
 abbrev pub decreases-walk : goal.decreases-walk
-decreases-walk l = 1024 - l.at
+decreases-walk l = length l.plan.now

@@ -1,21 +1,18 @@
 -- Stage 4 is too heavy, or its form goes on to stage 5.
-use mathlib.Core.Path.{refl, sym, ◌∙◌}
-use Prim.Native.Nat.{ℕ}
-use lib.ListN.{length-replicate}
+use native.Mathlib.Omega.{arith}
+use mathlib.Core.Path.{sym}
+use lib.ListN.{length-take}
 use Rattle.definitions.proofs.Laws.Shapes.{nnf_ready}
-use Rattle.convert.proofs.Shown.{as_well, is_refused}
+use Rattle.convert.proofs.Shown.{as_well, handed}
 use Rattle.convert.proofs.Passed.{heavy_matrix, made_matrix}
 use Rattle.convert.proofs.stages.clausal.Goals as goal
 
-pub listed-requires : goal.listed-requires
-listed-requires c = c.negation_form-s.ensures.size ∙ length-replicate {A = ℕ} 1024 0
+pub returns-in_err-negation_form : goal.returns-in_err-negation_form
+returns-in_err-negation_form c = λ m b n h. handed _ c.from_residual.ensures.1 (heavy_matrix _ c.args.spellings.made.now _ m n h c.negation_form.ensures c.in_err-negation_form.was)
 
-pub returns-in-Full : goal.returns-in-Full
-returns-in-Full c =
-    λ n m b w h. is_refused (heavy_matrix _ m w (c.negation_form-s.ensures.form c.requires (length-replicate {A = ℕ} 1024 0) _ _ n m h) c.in-Full.is) refl
-
-pub returns-in-Made : goal.returns-in-Made
-returns-in-Made c =
-    λ n m b w h.
-    let k = made_matrix _ m w (c.negation_form-s.ensures.form c.requires (length-replicate {A = ℕ} 1024 0) _ _ n m h) c.in-Made.is in
-    as_well (sym k.1) (c.listed.ensures _ (nnf_ready m b) k.0)
+pub returns : goal.returns
+returns c =
+    λ m b n h.
+    let k = made_matrix _ c.args.spellings.made.now _ m n h c.negation_form.ensures c.in_ok-negation_form.was in
+    let t = c.negation_form.new.out in
+    as_well (sym k.1) (c.listed.ensures _ (nnf_ready m b) (rw c.words.ensures (omega (arith, k.0.room, length-take t.used t.nodes))) (rw c.words.ensures k.0.words))

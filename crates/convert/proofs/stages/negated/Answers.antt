@@ -1,16 +1,9 @@
 -- Stage 4 is too heavy, or its form is shown.
-use mathlib.Core.Path.{refl}
-use Prim.Native.Nat.{ℕ}
-use lib.ListN.{length-replicate}
-use Rattle.convert.proofs.Shown.{as_well, heavy_negation, made_negation}
+use Rattle.convert.proofs.Shown.{as_well, handed, heavy_negation, made_negation}
 use Rattle.convert.proofs.stages.negated.Goals as goal
 
-pub returns-in-Full : goal.returns-in-Full
-returns-in-Full c =
-    λ n f u. heavy_negation u.within (c.negation_form-s.ensures.form c.requires (length-replicate {A = ℕ} 1024 0) _ c.args.made.now n f (u.holds _)) c.in-Full.is refl
+pub returns-in_err-negation_form : goal.returns-in_err-negation_form
+returns-in_err-negation_form c = λ f u. handed _ c.from_residual.ensures.1 (heavy_negation c.args.spellings.made.now u c.negation_form.ensures c.in_err-negation_form.was)
 
-pub returns-in-Made : goal.returns-in-Made
-returns-in-Made c =
-    λ n f u.
-    let m = made_negation u.within (c.negation_form-s.ensures.form c.requires (length-replicate {A = ℕ} 1024 0) _ c.args.made.now n f (u.holds _)) c.in-Made.is in
-    as_well m.1 (c.show.ensures _ m.0)
+pub returns : goal.returns
+returns c = λ f u. let m = made_negation c.args.spellings.made.now u c.negation_form.ensures c.in_ok-negation_form.was in as_well m.1 (c.show.ensures _ (rw c.words.ensures m.0.words))

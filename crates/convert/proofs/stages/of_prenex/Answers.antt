@@ -1,33 +1,26 @@
 -- A rule in another form is refused, then one with a `#`; the blocks and the matrix of any other go on to stage 3.
 use native.Mathlib.Omega.{arith}
-use mathlib.Core.Path.{refl, sym, ◌∙◌}
-use mathlib.Core.Bool.{true, false}
-use Prim.Native.Nat.{ℕ}
-use lib.ListN.{length-replicate}
+use mathlib.Core.Path.{refl, sym, ap}
+use mathlib.Core.Bool.{true, false, not}
 use Rattle.definitions.specs.Prenex.{parted}
 use Rattle.definitions.proofs.Laws.Bools.{not_flip}
 use Rattle.convert.proofs.Shown.{as_well, is_refused}
-use Rattle.convert.proofs.Shaping.{not_prenex, hashed_prenex, clean_prenex, halves_apart, rule_tame}
-use mathlib.Core.Path.{ap}
-use mathlib.Core.Bool.{not}
+use Rattle.convert.proofs.Shaping.{not_prenex, hashed_prenex, clean_prenex, its_parts, rule_tame}
 use Rattle.convert.proofs.stages.of_prenex.Goals as goal
 
 pub returns-then-not-is_prenex : goal.returns-then-not-is_prenex
 returns-then-not-is_prenex c =
-    λ m f u. is_refused (not_prenex f (c.shape_of.ensures _ c.args.made.now f (u.holds _).words) c.is_prenex.ensures (not_flip _ true (ap not c.if-not-is_prenex.true))) refl
+    λ m f u. is_refused (not_prenex f (c.shape_of.ensures _ c.args.made.now f (u.words _)) c.is_prenex.ensures (not_flip _ true (ap not c.if-not-is_prenex.true))) refl
 
 pub returns-then-has_hash : goal.returns-then-has_hash
 returns-then-has_hash c =
-    λ m f u. is_refused (hashed_prenex f (c.shape_of.ensures _ c.args.made.now f (u.holds _).words) c.is_prenex.ensures (not_flip _ false (ap not c.if-not-is_prenex.false)) (c.has_hash.ensures f (u.holds _).words) c.if-has_hash.true) refl
-
-pub skolem_stage-requires : goal.skolem_stage-requires
-skolem_stage-requires c = (c.requires, c.split-halves.ensures.size ∙ length-replicate {A = ℕ} 1024 0)
+    λ m f u. is_refused (hashed_prenex f (c.shape_of.ensures _ c.args.made.now f (u.words _)) c.is_prenex.ensures (not_flip _ false (ap not c.if-not-is_prenex.false)) (c.has_hash.ensures f (u.words _)) c.if-has_hash.true) refl
 
 pub returns : goal.returns
 returns c =
     λ m f u.
-    let s = c.shape_of.ensures _ c.args.made.now f (u.holds _).words in
+    let s = c.shape_of.ensures _ c.args.made.now f (u.words _) in
     let p = c.is_prenex.ensures in
     let y = not_flip _ false (ap not c.if-not-is_prenex.false) in
-    as_well (sym (clean_prenex f s p y (c.has_hash.ensures f (u.holds _).words) c.if-has_hash.false))
-    (c.skolem_stage.ensures m (omega arith) (parted f) (rule_tame f u.within) (halves_apart _ _ f u (c.split-halves.ensures.halves c.requires (length-replicate {A = ℕ} 1024 0)) s p y))
+    as_well (sym (clean_prenex f s p y (c.has_hash.ensures f (u.words _)) c.if-has_hash.false))
+    (c.skolem_stage.ensures m (omega arith) (parted f) (rule_tame f u.within) (its_parts f u c.split.ensures s p y))

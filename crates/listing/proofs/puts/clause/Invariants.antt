@@ -1,14 +1,8 @@
-use mathlib.Core.Path.{◌≡◌}
-use Prim.Native.Nat.{◌-◌, ◌≤◌}
-use lib.ListN.{length}
+-- The texts so far are written behind the line.
 use Rattle.writer.specs.Writer.{Wrote}
-use Rattle.listing.specs.Texts.{literal_text}
+use Rattle.listing.specs.Texts.{literal_in}
 use Rattle.listing.proofs.Loops.{so_far}
 use Rattle.listing.proofs.puts.clause.Given as goal
 
-abbrev pub invariant-loop-i : goal.invariant-loop-i
-invariant-loop-i l =
-    (l.i ≤ length l.numbers) × (length l.out ≡ length l.initial.out) × Wrote l.initial.out l.initial.next (so_far (literal_text l.text l.made l.nodes l.atoms) l.numbers l.i) l.out l.next
-
-abbrev pub decreases-loop-i : goal.decreases-loop-i
-decreases-loop-i l = length l.numbers - l.i
+abbrev pub invariant-loop-number : goal.invariant-loop-number
+invariant-loop-number l = Wrote l.initial.out l.initial.next (so_far (literal_in l.source) l.numbers l.number-index) l.out l.next

@@ -1,14 +1,8 @@
-use mathlib.Core.Path.{◌≡◌}
-use Prim.Native.Nat.{◌-◌, ◌≤◌}
-use lib.ListN.{length}
+-- The texts so far are written behind the line.
 use Rattle.writer.specs.Writer.{Wrote}
-use Rattle.listing.specs.Texts.{stored_text}
+use Rattle.listing.specs.Texts.{stored_in}
 use Rattle.listing.proofs.Loops.{so_far}
 use Rattle.listing.proofs.puts.listing.Given as goal
 
-abbrev pub invariant-loop-i : goal.invariant-loop-i
-invariant-loop-i l =
-    (l.i ≤ length l.index) × (length l.out ≡ length l.initial.out) × Wrote l.initial.out l.initial.next (so_far (stored_text l.text l.made l.nodes l.atoms l.store) l.index l.i) l.out l.next
-
-abbrev pub decreases-loop-i : goal.decreases-loop-i
-decreases-loop-i l = length l.index - l.i
+abbrev pub invariant-loop-word : goal.invariant-loop-word
+invariant-loop-word l = Wrote l.initial.out l.initial.next (so_far (stored_in l.source) l.source.index.now l.word-index) l.out l.next

@@ -1,35 +1,26 @@
--- The sign's line is 4 bytes long, and the writer measures the atom.
+-- The sign's line and the atom's text, which the writer measures.
+use mathlib.Core.Path.{◌≡◌}
+use Prim.Native.Nat.{◌+◌}
 use native.Mathlib.Omega.{arith}
-use mathlib.Core.Path.{refl}
-use Rattle.writer.specs.MeasureLaws.{too_long, was_short}
-use Rattle.listing.specs.Texts.{atom_words, literal_text}
-use Rattle.listing.proofs.Pieces.{was_size, literal_length, literal_fits, literal_long}
+use lib.ListN.{length}
+use Rattle.writer.specs.MeasureLaws.{too_long, short_enough, was_short, was_long, was_size}
+use Rattle.listing.specs.Texts.{literal_in}
+use Rattle.listing.proofs.Pieces.{literal_length}
 use Rattle.listing.proofs.sizes.literal.Goals as goal
 
-pub returns-then-room-lt4 : goal.returns-then-room-lt4
-returns-then-room-lt4 c =
-    let a = c.args in
-    too_long (literal_text a.text.now a.made.now a.nodes.now a.atoms.now a.number) a.room
-    (omega (
-      arith,
-      literal_length a.text.now a.made.now a.nodes.now a.atoms.now a.number
-          (atom_words a.nodes.now a.atoms.now a.number) refl,
-    ))
+pub returns-in_err-left : goal.returns-in_err-left
+returns-in_err-left c =
+    rw c.from_residual.ensures (too_long _ _ (omega (arith, literal_length c.args.source c.args.number, c.sign-signed.ensures, c.in_err-left.ensures)))
 
-pub returns-in_default : goal.returns-in_default
-returns-in_default c =
-    let a = c.args in
-    literal_long a.text.now a.made.now a.nodes.now a.atoms.now a.number c.atom-words.result.now c.atom-words.ensures
-    (omega arith) c.measure.ensures c.in_default.is
-
-pub overflow_add-result : goal.overflow_add-result
-overflow_add-result c =
-    let m = c.measure.ensures in
-    let e = c.in-Length.is in
-    omega (arith, was_short m e, was_size m e)
+pub returns-in_err-size : goal.returns-in_err-size
+returns-in_err-size c =
+    let m = rw c.atom.ensures at c.measure.ensures in
+    rw c.from_residual-in_err-size.ensures
+    (too_long _ _ (omega (arith, literal_length c.args.source c.args.number, c.sign-signed.ensures, c.in_ok-left.ensures, was_long m c.in_err-size.was)))
 
 pub returns : goal.returns
 returns c =
-    let a = c.args in
-    literal_fits a.text.now a.made.now a.nodes.now a.atoms.now a.number c.atom-words.result.now c.atom-words.ensures
-    (omega arith) c.measure.ensures c.in-Length.is
+    let m = rw c.atom.ensures at c.measure.ensures in
+    let n : length (literal_in c.args.source c.args.number) ≡ length c.sign-signed.result.now + c.in_ok-size.size =
+    omega (arith, literal_length c.args.source c.args.number, c.sign-signed.ensures, was_size m c.in_ok-size.was) in
+    short_enough _ _ _ (omega (arith, n, c.in_ok-left.ensures, was_short m c.in_ok-size.was, was_size m c.in_ok-size.was)) n

@@ -7,4 +7,4 @@ use Rattle.prenex.proofs.outward.atom.Goals as goal
 pub returns : goal.returns
 returns c =
     let y = c.copy.ensures in
-    (y.0, λ T end f rest p r. y.1 T end _ rest p r (omega (arith, c.weigh-end.ensures.next_is T [] f rest r.stream, words_weight f)))
+    (y.0, λ T f rest p r. y.1 T _ rest p r (omega (arith, c.in_ok-next.ensures.ends T [] f rest r.stream, words_weight f)))

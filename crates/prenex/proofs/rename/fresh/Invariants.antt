@@ -1,14 +1,18 @@
-use Prim.Native.Nat.{◌-◌, ◌/◌, ◌%◌}
-use lib.ListN.{get_or}
-use lib.Seq.{slice}
+use Prim.Native.Nat.{ℕ, ◌*◌, ◌-◌, ◌/◌, ◌%◌, ◌<◌, ◌≤◌}
+use lib.ListN.{length}
+use Rattle.definitions.specs.Limits.{house}
 use Rattle.text.specs.Words.{spell, tokens}
+use Rattle.prenex.specs.Tables.{slot_size, Slot}
 use Rattle.prenex.specs.Renaming.{all_names}
 use Rattle.prenex.proofs.Growing.{Grows}
 use Rattle.prenex.proofs.rename.fresh.Given as goal
 
-abbrev pub invariant-loop-new : goal.invariant-loop-new
-invariant-loop-new l =
-    Grows l.text l.made l.at (all_names (slice l.low l.high (tokens l.text l.made l.prefix)) (slice l.from l.to (tokens l.text l.made l.matrix)) (slice l.other l.end (tokens l.text l.made l.matrix))) (spell l.text l.made (get_or l.prefix l.at 0)) l.new
+abbrev pub invariant-loop-spellings : goal.invariant-loop-spellings
+invariant-loop-spellings l =
+    (at : ℕ) → at < house.weight → slot_size * house.weight ≤ length l.spellings.made.now → Slot l.spellings.made.now at l.word
+    → Grows l.spellings.text.now l.spellings.made.now at
+    (all_names (tokens l.spellings.text.now l.spellings.made.now l.bound) (tokens l.spellings.text.now l.spellings.made.now l.mine) (tokens l.spellings.text.now l.spellings.made.now l.others))
+    (spell l.spellings.text.now l.spellings.made.now l.word) l.new
 
-abbrev pub decreases-loop-new : goal.decreases-loop-new
-decreases-loop-new l = 25 - l.new / 2048 % 64
+abbrev pub decreases-loop-spellings : goal.decreases-loop-spellings
+decreases-loop-spellings l = 25 - l.new / 2048 % 64

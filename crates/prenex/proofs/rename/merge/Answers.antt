@@ -1,15 +1,13 @@
 -- The left side against the right, then the right against the left matrix.
-use Rattle.prenex.proofs.Joins.{left_bounds, right_bounds, left_stops, both_walked}
+use mathlib.Core.Path.{refl}
+use Rattle.std.proofs.lemmas.Result.{err_from_is_err_and}
+use Rattle.prenex.proofs.Joins.{left_stops, both_walked}
 use Rattle.prenex.proofs.rename.merge.Goals as goal
 
-pub side-requires : goal.side-requires
-side-requires c = (left_bounds c.args.text.now c.requires.0 c.requires.1, c.requires.1.left)
-
-pub returns-then-side : goal.returns-then-side
-returns-then-side c = left_stops c.args.text.now c.requires.0 c.requires.1 c.side.ensures c.if-side.true
-
-pub side-requires-2 : goal.side-requires-2
-side-requires-2 c = (right_bounds c.args.text.now c.requires.0 c.requires.1 c.side.ensures.ready, c.requires.1.right)
+pub returns-in_err-side : goal.returns-in_err-side
+returns-in_err-side c =
+    let p = err_from_is_err_and c.from_residual.result c.from_residual.ensures.1 in
+    rw p.1 (refl, refl, left_stops c.args.spellings.text.now c.requires.0 c.requires.1 c.in_err-side.ensures)
 
 pub returns : goal.returns
-returns c = both_walked c.args.text.now c.requires.0 c.requires.1 c.side.ensures c.if-side.false c.side-2.ensures
+returns c = (refl, refl, both_walked c.args.spellings.text.now c.requires.0 c.requires.1 c.in_ok-side.ensures _ _ _ c.side-2.ensures)

@@ -1,9 +1,5 @@
-use Prim.Native.Nat.{◌+◌, ◌-◌, ◌≤◌}
 use Rattle.prenex.proofs.Blocking.{Laying}
 use Rattle.prenex.proofs.write.block.Given as goal
 
-abbrev pub invariant-loop-i : goal.invariant-loop-i
-invariant-loop-i l = (l.i ≤ l.variables) × Laying l.text l.initial.made l.initial.prefix (l.used + 1) l.src l.at l.i l.place l.made l.prefix
-
-abbrev pub decreases-loop-i : goal.decreases-loop-i
-decreases-loop-i l = l.variables - l.i
+abbrev pub invariant-loop-word : goal.invariant-loop-word
+invariant-loop-word l = Laying l.text l.initial.made l.initial.prefix l.src l.at l.word-index l.made l.prefix

@@ -1,26 +1,20 @@
 -- The loop keeps `Copying`: the words from `at` up to i stand behind the matrix.
+use mathlib.Core.Path.{◌≡◌}
+use Prim.Native.Nat.{◌+◌}
 use native.Mathlib.Omega.{arith}
-use Rattle.prenex.proofs.Appending.{copying_start, copying_on, copying_extends, copying_outside, copying_full, copying_done}
+use Rattle.prenex.proofs.Appending.{run_at, copying_on, copying_extends, copying_done}
 use Rattle.prenex.proofs.write.copy.Goals as goal
 
-pub loop-i-init : goal.loop-i-init
-loop-i-init c = let a = c.args in copying_start a.src.now a.at a.next a.matrix.now a.used c.requires.1 c.requires.2
-
-pub returns-then-i-ge-WEIGHT : goal.returns-then-i-ge-WEIGHT
-returns-then-i-ge-WEIGHT c =
-    (copying_extends c.loop-i.invariant _ 1, λ T end k rest p r e. copying_outside c.loop-i.invariant _ c.requires.0 r e c.loop-i-test.true c.if-i-ge-WEIGHT.true)
-
-pub returns-then-written-ge-WEIGHT : goal.returns-then-written-ge-WEIGHT
-returns-then-written-ge-WEIGHT c =
-    (copying_extends c.loop-i.invariant _ 1, λ T end k rest p r e. copying_full c.loop-i.invariant _ c.requires.0 r e c.loop-i-test.true c.if-written-ge-WEIGHT.true)
-
-pub bounds-matrix-written : goal.bounds-matrix-written
-bounds-matrix-written c = omega (arith, c.loop-i.invariant.size)
-
-pub loop-i-preserved : goal.loop-i-preserved
-loop-i-preserved c =
-    copying_on c.loop-i.invariant _ c.requires.0 (omega arith) (omega arith) (omega arith) c.plain.ensures.0 c.plain.ensures.1
+pub loop-word-preserved : goal.loop-word-preserved
+loop-word-preserved c =
+    let e = run_at c.args.src.now c.args.at _ c.loop-word.word-index c.loop-word-test.true in
+    let i = c.loop-word.invariant in
+    let z : c.args.at + (c.loop-word.word-index + 1) ≡ c.args.at + c.loop-word.word-index + 1 = omega arith in
+    rw z
+    (copying_on i _ (omega arith) (omega arith) (omega (arith, i.count)) c.plain.ensures.0 (rw e at c.plain.ensures.1))
 
 pub returns : goal.returns
-returns c =
-    (copying_extends c.loop-i.invariant _ 0, λ T end k rest p r e. copying_done c.loop-i.invariant _ c.requires.0 r e p c.loop-i-test.false)
+returns c = (
+  copying_extends c.loop-word.invariant (omega (arith, c.loop-word.invariant.count)),
+  λ T l rest p r e. copying_done c.loop-word.invariant r (omega arith) p,
+)

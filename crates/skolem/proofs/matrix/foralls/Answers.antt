@@ -1,22 +1,15 @@
 -- The loop keeps that those of the first i heads are written that stay.
 use native.Mathlib.Omega.{arith}
-use mathlib.Core.Path.{◌≡◌}
-use lib.ListN.{take, length-take}
-use lib.Seq.{take_all}
-use Rattle.skolem.proofs.FillLaws.{keeps_none, keeps_both, take_one}
+use Rattle.skolem.proofs.FillLaws.{keeps_none, one_stays, one_goes}
 use Rattle.skolem.proofs.matrix.foralls.Goals as goal
+use Rattle.skolem.proofs.matrix.foralls.Goals.{then-stays, else-stays}
 
-pub loop-i-init : goal.loop-i-init
-loop-i-init c = let a = c.args in let p = c.requires in (p.0, p.1, p.2, omega arith, keeps_none a.out.now p.2)
+pub loop-head-init : goal.loop-head-init
+loop-head-init c = keeps_none c.args.heads.now c.args.out.now
 
-pub keep_one-n-requires : goal.keep_one-n-requires
-keep_one-n-requires c =
-    let l = c.loop-i in (l.invariant.4.size, omega (arith, l.invariant.4.few, length-take l.i (take c.args.used c.args.heads.now)))
-
-pub loop-i-preserved : goal.loop-i-preserved
-loop-i-preserved c =
-    let a = c.args in let l = c.loop-i in (l.invariant.0, l.invariant.1, l.invariant.2, omega arith, rw (take_one l.i a.used a.heads.now c.loop-i-test.true (omega (arith, l.invariant.0, l.invariant.1))) (keeps_both l.invariant.4 c.keep_one-n.ensures))
-
-pub returns : goal.returns
-returns c =
-    let a = c.args in let l = c.loop-i in let e : take l.i (take a.used a.heads.now) ≡ take a.used a.heads.now = take_all l.i (take a.used a.heads.now) (simp length-take (omega arith)) in rw e at l.invariant.4
+pub loop-head-preserved : goal.loop-head-preserved
+loop-head-preserved c =
+    let a = c.args in let l = c.loop-head in elim c.if-stays.branch [
+      | then-stays w ↦ rw (w.out-is, w.n-is) (one_stays a.heads.now l.out l.head-index l.n l.invariant (omega arith) (omega arith) c.stays.ensures w.if-stays.true)
+      | else-stays w ↦ rw (w.out-is, w.n-is) (one_goes a.heads.now l.out l.head-index l.n l.invariant (omega arith) c.stays.ensures w.if-stays.false)
+    ]

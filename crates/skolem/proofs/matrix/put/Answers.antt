@@ -1,16 +1,15 @@
--- Each way through the tests is a law of one word.
-use Rattle.skolem.proofs.FillLaws.{no_room, too_wide, function_put, other_put}
+-- No room, too many arguments, or one word more.
+use mathlib.Core.List.{[]}
+use Rattle.skolem.proofs.FillLaws.{no_room, too_wide, put_one}
 use Rattle.skolem.proofs.matrix.put.Goals as goal
+use Rattle.skolem.proofs.matrix.put.Goals.{then-used-out-via-then-used-out, then-used-out-via-else-used-out+then-arguments-gt-ARGUMENTS}
 
-pub returns-then-used-room : goal.returns-then-used-room
-returns-then-used-room c = let a = c.args in no_room c.requires a.word c.if-used-room.true
-
-pub returns-then-word-gt32 : goal.returns-then-word-gt32
-returns-then-word-gt32 c = let a = c.args in too_wide c.requires a.word c.if-word-eq-FUN.true c.if-word-gt32.true
-
-pub returns-then-word-eq-FUN : goal.returns-then-word-eq-FUN
-returns-then-word-eq-FUN c =
-    let a = c.args in function_put c.requires a.word c.if-used-room.false c.if-word-eq-FUN.true c.if-word-gt32.false
+pub returns-then-used-out : goal.returns-then-used-out
+returns-then-used-out c =
+    let a = c.args in elim c.then-used-out.branch [
+      | then-used-out-via-then-used-out w ↦ no_room a.out.now a.used a.word w.if-used-out.true
+      | then-used-out-via-else-used-out+then-arguments-gt-ARGUMENTS w ↦ too_wide a.out.now a.used a.word (w.arguments.ensures.0 [] []) w.if-arguments-gt-ARGUMENTS.true
+    ]
 
 pub returns : goal.returns
-returns c = let a = c.args in other_put c.requires a.word c.if-used-room.false c.if-word-eq-FUN.false
+returns c = put_one c.if-used-out.false (c.arguments.ensures.0 [] []) c.if-arguments-gt-ARGUMENTS.false

@@ -1,24 +1,25 @@
--- The loop keeps what the survey of the rest, from i on, adds to what is there: each way through a turn is a step of the survey.
-use mathlib.Core.Path.{refl}
-use Rattle.skolem.proofs.ScopeLaws.{surveying_start, block_begun, head_made, entry_kept, surveying_end}
+-- The loop keeps that the survey of the rest, from i on, completes that of the whole.
+use native.Mathlib.Omega.{arith}
+use Rattle.std.proofs.lemmas.List.{set-set}
+use Rattle.skolem.proofs.ScopeLaws.{block_begun, head_made, entry_put, entry_passed, surveying_end}
 use Rattle.skolem.proofs.scope.survey.Goals as goal
-
-pub loop-i-init : goal.loop-i-init
-loop-i-init c =
-    let a = c.args in let T = a.text.now in let M = a.made.now in let p = c.requires in (p.0, p.1, surveying_start T M a.prefix.now a.used p.1 p.0 a.heads.now a.scope.now a.free p.2 p.3 p.4)
-
-pub loop-i-preserved-then-left-eq0 : goal.loop-i-preserved-then-left-eq0
-loop-i-preserved-then-left-eq0 c =
-    let a = c.args in let T = a.text.now in let M = a.made.now in let l = c.loop-i in let t = c.loop-i-test in (l.invariant.0, l.invariant.1, block_begun T M a.prefix.now a.used l.invariant.1 l.invariant.0 t.true l.invariant.2 c.if-left-eq0.true c.block_size-left.ensures refl)
-
-pub loop-i-preserved-then-exists : goal.loop-i-preserved-then-exists
-loop-i-preserved-then-exists c =
-    let a = c.args in let T = a.text.now in let M = a.made.now in let l = c.loop-i in let t = c.loop-i-test in (l.invariant.0, l.invariant.1, head_made T M a.prefix.now a.used l.invariant.1 l.invariant.0 t.true l.invariant.2 c.if-left-eq0.false c.if-exists.true c.blank.ensures)
+use Rattle.skolem.proofs.scope.survey.Goals.{then-left-eq0, else-left-eq0, then-exists, else-exists+then-not-binds, else-exists+else-not-binds}
 
 pub loop-i-preserved : goal.loop-i-preserved
 loop-i-preserved c =
-    let a = c.args in let T = a.text.now in let M = a.made.now in let l = c.loop-i in let t = c.loop-i-test in (l.invariant.0, l.invariant.1, entry_kept T M a.prefix.now a.used l.invariant.1 l.invariant.0 t.true l.invariant.2 c.if-left-eq0.false c.if-exists.false c.universal-n.ensures)
+    let a = c.args in let s = a.spellings in let l = c.loop-i in elim c.if-left-eq0.branch [
+      | then-left-eq0 w ↦ rw (w.heads-is, w.scope-is, w.left-is, w.exists-is) (
+          block_begun s.text.now s.made.now a.prefix.now (omega arith) (omega arith) l.invariant w.if-left-eq0.true w.block_size-left.ensures w.has_kind-exists.ensures)
+      | else-left-eq0 w ↦ rw (w.heads-is, w.scope-is, w.left-is, w.exists-is) (elim w.if-exists.branch [
+        | then-exists v ↦ rw (v.heads-is, v.scope-is, set-set) (
+            head_made s.text.now s.made.now a.prefix.now (omega arith) (omega arith) l.invariant w.if-left-eq0.false v.if-exists.true (
+            rw (← v.entries.ensures) v.blank.ensures))
+        | else-exists+then-not-binds v ↦ rw (v.heads-is, v.scope-is, v.push.ensures) (
+            entry_put s.text.now s.made.now a.prefix.now (omega arith) (omega arith) l.invariant w.if-left-eq0.false v.if-exists.false v.binds.ensures v.if-not-binds.true)
+        | else-exists+else-not-binds v ↦ rw (v.heads-is, v.scope-is) (
+            entry_passed s.text.now s.made.now a.prefix.now (omega arith) (omega arith) l.invariant w.if-left-eq0.false v.if-exists.false v.binds.ensures v.if-not-binds.false)
+      ])
+    ]
 
 pub returns : goal.returns
-returns c =
-    let a = c.args in let T = a.text.now in let M = a.made.now in let l = c.loop-i in surveying_end T M a.prefix.now a.used l.invariant.1 l.invariant.0 c.loop-i-test.false l.invariant.2
+returns c = let a = c.args in let s = a.spellings in surveying_end s.text.now s.made.now a.prefix.now (omega arith) (omega arith) c.loop-i.invariant

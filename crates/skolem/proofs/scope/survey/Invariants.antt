@@ -1,8 +1,5 @@
 use mathlib.Core.Bool.{false}
-use mathlib.Core.Path.{◌≡◌}
-use Prim.Native.Nat.{◌≤◌, ◌-◌}
-use lib.ListN.{length, take}
-use Rattle.definitions.specs.Limits.{house}
+use lib.ListN.{take}
 use Rattle.text.specs.Words.{token}
 use Rattle.skolem.specs.Pass.{survey, blank_word}
 use Rattle.skolem.proofs.ScopeLaws.{Surveying}
@@ -10,7 +7,5 @@ use Rattle.skolem.proofs.scope.survey.Given as goal
 
 abbrev pub invariant-loop-i : goal.invariant-loop-i
 invariant-loop-i l =
-    (length l.prefix ≡ house.weight) × (l.used ≤ house.weight) × Surveying l.text l.made l.prefix l.used (survey (token l.text l.made) blank_word 0 false (take l.free l.initial.scope) (take l.used l.prefix)) l.heads l.scope l.n l.left l.exists l.i
-
-abbrev pub decreases-loop-i : goal.decreases-loop-i
-decreases-loop-i l = l.used - l.i
+    let s = l.spellings in let g = l.initial.scope in
+    Surveying s.text.now s.made.now l.prefix (survey (token s.text.now s.made.now) blank_word 0 false (take g.used g.words) l.prefix) l.heads (take l.scope.used l.scope.words) l.left l.exists l.i

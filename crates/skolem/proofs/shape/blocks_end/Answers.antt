@@ -1,21 +1,17 @@
--- The loop keeps that the blocks of the rest, from i on, end where all of them do.
-use Rattle.skolem.proofs.LookLaws.{looking_start, past_header, past_one, ends_here, ends_last}
+-- The blocks end where a word behind one is no block's, or with the words.
+use native.Mathlib.Omega.{arith}
+use mathlib.Core.Path.{sym, ◌∙◌}
+use Rattle.skolem.proofs.LookLaws.{ends_on, ends_here, ends_last}
 use Rattle.skolem.proofs.shape.blocks_end.Goals as goal
+use Rattle.skolem.proofs.shape.blocks_end.Goals.{then-loop-end-test+else-is_block, else-loop-end-test}
 
-pub loop-i-init : goal.loop-i-init
-loop-i-init c = let a = c.args in (c.requires, looking_start a.nodes.now a.used c.requires)
-
-pub returns-then-not-is_between : goal.returns-then-not-is_between
-returns-then-not-is_between c =
-    let a = c.args in let l = c.loop-i in ends_here a.nodes.now a.used l.invariant.0 l.invariant.1 c.loop-i-test.true c.if-left-eq0.true c.is_between.ensures (c.if-not-is_between.true)
-
-pub loop-i-preserved-then-left-eq0 : goal.loop-i-preserved-then-left-eq0
-loop-i-preserved-then-left-eq0 c =
-    let a = c.args in let l = c.loop-i in (l.invariant.0, rw c.due-left.ensures (past_header a.nodes.now a.used l.invariant.0 l.invariant.1 c.loop-i-test.true c.if-left-eq0.true c.is_between.ensures (c.if-not-is_between.false)))
-
-pub loop-i-preserved : goal.loop-i-preserved
-loop-i-preserved c =
-    let a = c.args in let l = c.loop-i in (l.invariant.0, past_one a.nodes.now a.used l.invariant.0 l.invariant.1 c.loop-i-test.true c.if-left-eq0.false)
+pub loop-end-preserved : goal.loop-end-preserved
+loop-end-preserved c =
+    let l = c.loop-end in rw c.count.ensures.0 (ends_on c.args.words.now l.end l.invariant c.loop-end-test.true (sym c.is_block.ensures ∙ c.if-is_block.true))
 
 pub returns : goal.returns
-returns c = let a = c.args in let l = c.loop-i in ends_last a.nodes.now a.used l.invariant.0 l.invariant.1 c.loop-i-test.false
+returns c =
+    let l = c.loop-end in elim c.loop-end-test.branch [
+      | then-loop-end-test+else-is_block w ↦ (omega (arith, c.min.ensures), λ T M. c.min.ensures ∙ ends_here c.args.words.now l.end l.invariant w.loop-end-test.true (sym w.is_block.ensures ∙ w.if-is_block.false) T M)
+      | else-loop-end-test w ↦ (omega (arith, c.min.ensures), λ T M. c.min.ensures ∙ ends_last c.args.words.now l.end l.invariant w.loop-end-test.false T M)
+    ]

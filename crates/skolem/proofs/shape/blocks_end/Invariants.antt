@@ -1,11 +1,10 @@
-use Prim.Native.Nat.{◌-◌, ◌≤◌}
+use Prim.Native.Nat.{◌-◌}
 use lib.ListN.{length}
-use Rattle.skolem.proofs.LookLaws.{Looking}
+use Rattle.skolem.proofs.LookLaws.{Ends}
 use Rattle.skolem.proofs.shape.blocks_end.Given as goal
 
-abbrev pub invariant-loop-i : goal.invariant-loop-i
-invariant-loop-i l =
-    (l.used ≤ length l.nodes) × Looking l.nodes l.used l.left l.i
+abbrev pub invariant-loop-end : goal.invariant-loop-end
+invariant-loop-end l = Ends l.words l.end
 
-abbrev pub decreases-loop-i : goal.decreases-loop-i
-decreases-loop-i l = l.used - l.i
+abbrev pub decreases-loop-end : goal.decreases-loop-end
+decreases-loop-end l = length l.words - l.end

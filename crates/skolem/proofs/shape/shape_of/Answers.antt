@@ -1,15 +1,14 @@
--- A block behind the first ones, and an exists block among these, tell the shape.
+-- The looks at the matrix and at the blocks tell the shape.
 use Rattle.skolem.proofs.LookLaws.{other_told, prenex_told, skolem_told}
 use Rattle.skolem.proofs.shape.shape_of.Goals as goal
 
-pub returns-then-any_kind : goal.returns-then-any_kind
-returns-then-any_kind c =
-    let a = c.args in λ T M f h. other_told a.nodes.now a.used c.lesser-end.result c.blocks_end-start.result c.lesser-end.ensures c.blocks_end-start.ensures T M f h c.any_kind.ensures c.if-any_kind.true
+pub returns-then-any_block : goal.returns-then-any_block
+returns-then-any_block c = λ T M f h. other_told c.split.ensures T M f h c.any_block.ensures c.if-any_block.true
 
-pub returns-then-any_kind-2 : goal.returns-then-any_kind-2
-returns-then-any_kind-2 c =
-    let a = c.args in λ T M f h. prenex_told a.nodes.now a.used c.lesser-end.result c.blocks_end-start.result c.lesser-end.ensures c.blocks_end-start.ensures T M f h c.any_kind.ensures c.if-any_kind.false c.any_kind-2.ensures c.if-any_kind-2.true
+pub returns-then-any_exists : goal.returns-then-any_exists
+returns-then-any_exists c =
+    λ T M f h. prenex_told c.split.ensures T M f h c.any_block.ensures c.if-any_block.false c.any_exists.ensures c.if-any_exists.true
 
-pub returns : goal.returns
-returns c =
-    let a = c.args in λ T M f h. skolem_told a.nodes.now a.used c.lesser-end.result c.blocks_end-start.result c.lesser-end.ensures c.blocks_end-start.ensures T M f h c.any_kind.ensures c.if-any_kind.false c.any_kind-2.ensures c.if-any_kind-2.false
+pub returns-else-any_exists : goal.returns-else-any_exists
+returns-else-any_exists c =
+    λ T M f h. skolem_told c.split.ensures T M f h c.any_block.ensures c.if-any_block.false c.any_exists.ensures c.if-any_exists.false

@@ -7,16 +7,16 @@ use Rattle.stream.proofs.print.put_result.Goals as goal
 
 pub overflow_add-result : goal.overflow_add-result
 overflow_add-result c =
-    let a = c.args in omega (arith, c.requires, given_short a.out.now _ a.start (a.start + 65536 - a.start) c.requires (omega arith) refl a.conversion c.convert-answer.ensures c.conversion_at-chosen.ensures c.in_numbers-s.ensures c.if-s.true)
+    let a = c.args in omega (arith, c.requires, given_short a.out.now _ a.start (a.start + 65536 - a.start) c.requires (omega arith) refl c.convert.ensures c.in-Ok.is)
 
-pub returns-then-s : goal.returns-then-s
-returns-then-s c =
-    (let a = c.args in result_given a.out.now _ a.start (a.start + 65536 - a.start) c.requires (omega arith) refl a.conversion c.convert-answer.ensures c.conversion_at-chosen.ensures c.in_numbers-s.ensures c.if-s.true, c.convert-answer.ensures.clears)
+pub returns-in-Ok : goal.returns-in-Ok
+returns-in-Ok c =
+    (let a = c.args in result_given a.out.now _ a.start (a.start + 65536 - a.start) c.requires (omega arith) refl c.convert.ensures c.in-Ok.is, c.convert.ensures.clears)
 
 pub put_refusal-requires : goal.put_refusal-requires
 put_refusal-requires c =
-    let a = c.args in let l = part_back a.out.now _ a.start (a.start + 65536 - a.start) c.requires (omega arith) refl c.convert-answer.new.out c.convert-answer.auto.out in omega (arith, l, c.requires)
+    let a = c.args in let l = part_back a.out.now _ a.start (a.start + 65536 - a.start) c.requires (omega arith) refl c.convert.new.out c.convert.auto.out in omega (arith, l, c.requires)
 
-pub returns : goal.returns
-returns c =
-    (let a = c.args in result_refused a.out.now _ a.start (a.start + 65536 - a.start) c.requires (omega arith) refl a.conversion c.convert-answer.ensures c.conversion_at-chosen.ensures c.in_numbers-s.ensures c.if-s.false c.put_refusal.ensures, c.convert-answer.ensures.clears)
+pub returns-in-Err : goal.returns-in-Err
+returns-in-Err c =
+    (let a = c.args in result_refused a.out.now _ a.start (a.start + 65536 - a.start) c.requires (omega arith) refl c.convert.ensures c.in-Err.is c.number.ensures c.place.ensures c.put_refusal.ensures, c.convert.ensures.clears)

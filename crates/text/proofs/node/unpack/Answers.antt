@@ -1,11 +1,11 @@
--- The tests on the word are those of `unpacked`, and its fields are the word's.
+-- The word has a kind, which is the one at its number's place.
 use native.Mathlib.Omega.{arith}
-use borrow.Author.Tests.{le-leb, lt-leb}
+use borrow.Author.Tests.{le-leb}
 use Prim.Native.Nat.{◌%◌}
+use Rattle.text.specs.NodeLaws.{kind_known, number_small}
 use Rattle.text.proofs.node.unpack.Goals as goal
 
-pub returns-then-number-gt13 : goal.returns-then-number-gt13
-returns-then-number-gt13 c = rw (lt-leb (c.args.word % 16) 13 (omega arith))
-
 pub returns : goal.returns
-returns c = rw (le-leb (c.args.word % 16) 13 (omega arith), c.kind_of.ensures)
+returns c =
+    let h = c.in_ok-kind in
+    rw (le-leb (c.args.word % 16) 13 (omega (arith, h.ensures, number_small h.kind)), ← (kind_known h.kind h.ensures))
