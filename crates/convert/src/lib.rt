@@ -10,8 +10,8 @@ ghost use Rattle.convert.specs.Answers.{meaning, refused, misread, unprenexed, u
 
 use crate::stages::staged;
 use clauses::TooMany;
-use reader::{Flaw, read};
-use text::table::Full;
+use reader::{Flaw, read_into};
+use text::table::{Full, Table};
 
 mod stages;
 
@@ -158,7 +158,8 @@ pub fn place_of(answer: Result<usize, Refusal>) -> usize
 fn inside(which: Conversion, text: &[u8], made: &mut [u8], out: &mut [u8]) -> Result<usize, Refusal>
     ensures { published house ≤ length made.old → Gives (named which) text.now out.old result out.new }
 {
-    let rule = read(text)?;
+    let mut rule = Table::empty();
+    read_into(text, &mut rule)?;
     staged(which, rule.words(), text, made, out)
 }
 

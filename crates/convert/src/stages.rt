@@ -14,6 +14,7 @@ ghost use Rattle.text.specs.Words.{tokens, code};
 ghost use Rattle.text.specs.Tables.{words_of};
 ghost use Rattle.text.specs.Prefixes.{prefix_code};
 ghost use Rattle.clauses.specs.Laying.{marked};
+ghost use Rattle.prenex.specs.Stage.{held};
 ghost use Rattle.skolem.specs.Shape.{prenex_shape};
 ghost use Rattle.skolem.specs.Parts.{Parts};
 ghost use Rattle.convert.specs.Answers.{named, Answered, Shows, ShowsTree};
@@ -24,11 +25,12 @@ use clauses::set::Set;
 use listing::source::Source;
 use listing::write_listing;
 use negation::negation_form;
-use prenex::Prenexed;
+use prenex::prenex_into;
 use skolem::counters::Counters;
 use skolem::shape::{Shape, has_hash, shape_of, split};
 use skolem::skolemise;
 use text::names::Spellings;
+use text::runs;
 use text::table::Table;
 use writer::write;
 
@@ -55,7 +57,7 @@ fn join(blocks: &mut Table, matrix: &[u64])
     let from = blocks.used.min(Table::WEIGHT);
     let size = matrix.len().min(Table::WEIGHT - from);
     let end = from + size;
-    blocks.nodes[from..end].copy_from_slice(&matrix[..size]);
+    runs::copy(&mut blocks.nodes[from..end], &matrix[..size]);
     blocks.used = end;
 }
 
@@ -77,22 +79,29 @@ fn negated(rule: &[u64], spellings: Spellings, out: &mut [u8]) -> Result<usize, 
     show(form.words(), spellings, out)
 }
 
-// Stages 1 and 2.
-fn outward(rule: &[u64], text: &[u8], made: &mut [u8]) -> Result<Prenexed, prenex::Unmade>
-    ensures { Prenexes text.now made.old rule.now made.new result }
+// Stages 1 and 2, into two tables: how many bytes of `made` the made names use.
+fn outward(
+    rule: &[u64],
+    text: &[u8],
+    made: &mut [u8],
+    prefix: &mut Table,
+    matrix: &mut Table,
+) -> Result<usize, prenex::Unmade>
+    ensures { Prenexes text.now made.old rule.now made.new (held result prefix.new matrix.new) }
 {
     let mut simple = Table::empty();
     simplify::simplify(rule, Spellings { text, made }, &mut simple);
-    prenex::prenex(simple.words(), text, made)
+    prenex_into(simple.words(), text, made, prefix, matrix)
 }
 
 // The prenex form.
 fn prenexed(rule: &[u64], text: &[u8], made: &mut [u8], out: &mut [u8]) -> Result<usize, Refusal>
     ensures { published house ≤ length made.old → (f : Formula) → Rule text.now rule.now f → ShowsTree to_pnf f out.old result out.new }
 {
-    let mut form = outward(rule, text, made)?;
-    let Prenexed { prefix, matrix, .. } = &mut form;
-    join(prefix, matrix.words());
+    let mut prefix = Table::empty();
+    let mut matrix = Table::empty();
+    outward(rule, text, made, &mut prefix, &mut matrix)?;
+    join(&mut prefix, matrix.words());
     show(prefix.words(), Spellings { text, made }, out)
 }
 
@@ -208,16 +217,10 @@ fn skolemised(
     if has_hash(rule, Spellings { text, made }) {
         return Err(Refusal::Hash);
     }
-    let form = outward(rule, text, made)?;
-    skolem_stage(
-        last,
-        form.prefix.words(),
-        form.matrix.words(),
-        form.made,
-        text,
-        made,
-        out,
-    )
+    let mut prefix = Table::empty();
+    let mut matrix = Table::empty();
+    let used = outward(rule, text, made, &mut prefix, &mut matrix)?;
+    skolem_stage(last, prefix.words(), matrix.words(), used, text, made, out)
 }
 
 // Whether a shape is a prenex form's.

@@ -8,6 +8,7 @@ use Rattle.definitions.specs.Prenex.{Prenex, formula, outward}
 use Rattle.definitions.specs.Convert.{too_long}
 use Rattle.text.specs.Words.{Token, kind_of_word, spell, tokens, code, is_made}
 use Rattle.text.specs.Prefixes.{Apart}
+use Rattle.text.specs.declared.table.Table.{Table}
 use Rattle.prenex.specs.Tables.{slot_size}
 use Rattle.prenex.specs.declared.Prenexed.{Prenexed}
 use Rattle.prenex.specs.declared.Unmade.{Unmade}
@@ -39,6 +40,11 @@ fate_of Stops.Long = Long
 -- the word w is a variable with a name over the limit
 abbrev pub long_variable : Bytes → Bytes → ℕ → Bool
 long_variable T M w = eqb (kind_of_word w) 12 && ltb house.name (length (spell T M w))
+
+-- what two tables that are lent, and an answer beside them, say together
+abbrev pub held : Result ℕ Unmade → Table → Table → Result Prenexed Unmade
+held (Ok n) prefix matrix = Ok (record { prefix = prefix; matrix = matrix; made = n })
+held (Err u) prefix matrix = Err u
 
 -- how many bytes of the made names are used, with a form or without
 abbrev pub written : Result Prenexed Unmade → ℕ

@@ -7,12 +7,12 @@ mod rename;
 mod weight;
 mod write;
 
-ghost use Rattle.std.specs.Prelude.{◌≡◌, ltb};
+ghost use Rattle.std.specs.Prelude.{◌≡◌, ◌≤◌, ◌*◌, ltb, replicate};
 ghost use Rattle.definitions.specs.Limits.{house};
 ghost use Rattle.definitions.specs.Prenex.{longest};
 ghost use Rattle.text.specs.Prefixes.{names};
 ghost use Rattle.prenex.specs.Renaming.{read};
-ghost use Rattle.prenex.specs.Stage.{fate_of, long_variable, Prenexes};
+ghost use Rattle.prenex.specs.Stage.{fate_of, long_variable, held, Prenexes};
 
 use crate::outward::outward as walk;
 use crate::weight::weigh;
@@ -78,11 +78,29 @@ fn untouched(fate: Fate) -> Unmade
     Unmade { made: 0, fate }
 }
 
-// The prenex form of the rule that these words begin with: its blocks outward, in reading order, and renamed where they have to be.
-// The weight is known first (7), then the names (6). Made names go to `made`, 25 bytes for each word of the prefix.
-pub fn prenex(words: &[u64], text: &[u8], made: &mut [u8]) -> Result<Prenexed, Unmade>
-    ensures { Prenexes text.now made.old words.now made.new result }
+// Empties a table, in its place.
+fn empty(table: &mut Table)
+    ensures { table.new ≡ record { nodes = replicate house.weight 0; used = 0 } }
 {
+    table.nodes.fill(0);
+    table.used = 0;
+}
+
+// The prenex form of the rule that these words begin with, into two tables that are lent: its blocks outward, in reading order, and renamed
+// where they have to be. The weight is known first (7), then the names (6). Made names go to `made`, 25 bytes for each word of the prefix; it
+// gives how many of its bytes they use.
+pub fn prenex_into(
+    words: &[u64],
+    text: &[u8],
+    made: &mut [u8],
+    prefix: &mut Table,
+    matrix: &mut Table,
+) -> Result<usize, Unmade>
+    ensures stage { Prenexes text.now made.old words.now made.new (held result prefix.new matrix.new) }
+    ensures room { (prefix.new.used ≤ house.weight) × (matrix.new.used ≤ house.weight) }
+{
+    empty(prefix);
+    empty(matrix);
     if words.len() > Table::WEIGHT || made.len() < SLOT * Table::WEIGHT {
         return Err(untouched(Fate::Unfit));
     }
@@ -92,12 +110,11 @@ pub fn prenex(words: &[u64], text: &[u8], made: &mut [u8]) -> Result<Prenexed, U
     if rule.weight > Table::WEIGHT {
         return Err(untouched(Fate::Heavy));
     }
-    let mut prefix = Table::empty();
-    let mut matrix = Table::empty();
     let own = &words[..rule.next];
-    let walked = walk(text, made, own, 0, false, &mut prefix, &mut matrix);
+    let walked = walk(text, made, own, 0, false, prefix, matrix);
     let used = SLOT * prefix.used;
     if let Err(stop) = walked {
+        matrix.used = 0;
         return Err(Unmade {
             made: used,
             fate: Fate::from(stop),
@@ -110,9 +127,19 @@ pub fn prenex(words: &[u64], text: &[u8], made: &mut [u8]) -> Result<Prenexed, U
             fate: Fate::Long,
         });
     }
+    Ok(used)
+}
+
+// The same, in tables of its own.
+pub fn prenex(words: &[u64], text: &[u8], made: &mut [u8]) -> Result<Prenexed, Unmade>
+    ensures { Prenexes text.now made.old words.now made.new result }
+{
+    let mut prefix = Table::empty();
+    let mut matrix = Table::empty();
+    let made = prenex_into(words, text, made, &mut prefix, &mut matrix)?;
     Ok(Prenexed {
         prefix,
         matrix,
-        made: used,
+        made,
     })
 }

@@ -10,6 +10,7 @@ ghost use Rattle.prenex.specs.declared.write.Stop.TheVariants.{Long};
 
 use text::kind::Kind;
 use text::names::clip;
+use text::runs;
 use text::table::Table;
 
 // The longest name that a variable may have.
@@ -91,7 +92,7 @@ fn lay(name: &[u8], made: &mut [u8], from: usize)
     ensures { made.new ≡ paste made.old from (padded name.now) slot_size }
 {
     let end = from + name.len();
-    made[from..end].copy_from_slice(name);
+    runs::copy(&mut made[from..end], name);
     made[end..from + SLOT].fill(b'`');
 }
 

@@ -6,7 +6,7 @@ use mathlib.Core.List.{List, [], ◌∷◌, ◌++◌, append_assoc, append-nil}
 use Prim.Native.Nat.{ℕ, suc, ◌+◌, ◌*◌, ◌-◌, ◌<◌, ◌≤◌}
 use native.Mathlib.Numerals.{add-one}
 use native.Mathlib.Omega.{arith}
-use lib.ListN.{length, take, drop, replicate, length-replicate}
+use lib.ListN.{length, take, drop}
 use Rattle.definitions.specs.Bytes.{Bytes, LF, null, split}
 use Rattle.definitions.specs.Limits.{house}
 use Rattle.definitions.specs.Syntax.{Term, var, con, app, Terms, nil, cons, Formula, top, bot, pred, eq, neg, bin, blk}
@@ -154,12 +154,10 @@ pub record State (text : Bytes) (table : Table) (stack : Stack) (at line : ℕ) 
   pub few : line ≤ 1 + table.used
   pub scans : scan house (some_due 1 false 1) 0 1 (split LF text) ≡ before_all done (scan house (due stack) table.used line (split LF (drop at text)))
 
-pub starts : (text : Bytes) (table : Table) (stack : Stack) → table ≡ record { nodes = replicate house.weight 0; used = 0 } → Ready stack
+pub starts : (text : Bytes) (table : Table) (stack : Stack) → length table.nodes ≡ house.weight → table.used ≡ 0 → Ready stack
     → due stack ≡ some_due 1 false 1 → State text table stack 0 1
 unfolding nodes_code all_inside
-starts text t stack z r e =
-    let u : t.used ≡ 0 = ap (λ (t : Table). t.used) z in
-    let n : length t.nodes ≡ 1024 = ap (λ (t : Table). length t.nodes) z ∙ length-replicate {A = ℕ} 1024 0 in
+starts text t stack n u r e =
     record {
       done = [];
       inside = omega arith;

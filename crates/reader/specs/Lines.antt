@@ -61,6 +61,10 @@ manner_of Exists = symbol_name
 manner_of Function = symbol_name
 manner_of Constant = symbol_name
 
+-- the same of a kind's number, and of any other
+abbrev pub manner_at : ℕ → Manner
+manner_at k = cond (eqb k 12) variable_name (cond (eqb k 10) simple_name symbol_name)
+
 -- a digit's value
 abbrev pub digit_value : ℕ → Option ℕ
 digit_value b = cond (digit b) (Some (b - 48)) None

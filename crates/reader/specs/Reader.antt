@@ -1,5 +1,5 @@
 -- What the reader of rule text answers: a table that holds the text's tree, or the refusal 2 (malformed) or 3 (too large) with its line.
-use Rattle.std.specs.Prelude.{◌≡◌, true, ◌≤◌, length, take, Result, Err, MatchResult, IfOk}
+use Rattle.std.specs.Prelude.{◌≡◌, true, ◌≤◌, length, take, Result, Ok, Err, MatchResult, IfOk}
 use Rattle.definitions.specs.Bytes.{Bytes}
 use Rattle.definitions.specs.Limits.{house}
 use Rattle.definitions.specs.Syntax.{Formula}
@@ -19,6 +19,11 @@ abbrev pub Says : Reading → Bytes → Result Table Flaw → Type 0
 Says (tree f) T r = MatchResult r (Reads T f) (λ flaw. ⊥)
 Says (malformed k) T r = r ≡ Err (Malformed k)
 Says (large k) T r = r ≡ Err (Large k)
+
+-- what a table that is lent, and an answer beside it, say together
+abbrev pub filled : Result Unit Flaw → Table → Result Table Flaw
+filled (Ok done) table = Ok table
+filled (Err flaw) table = Err flaw
 
 -- a table as it is read has no more words than its room
 pub record Roomy (table : Table) : Type 0 where

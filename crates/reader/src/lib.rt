@@ -9,10 +9,10 @@ ghost use Rattle.definitions.specs.Reading.{some_due, parse as parse_of, read as
 ghost use Rattle.text.specs.declared.kind.Kind.TheVariants.{All, Exists, Predicate, Function, Variable, Constant};
 ghost use Rattle.text.specs.Kinds.{number};
 ghost use Rattle.text.specs.Words.{word_of};
-ghost use Rattle.reader.specs.Lines.{upto, Named, Unnamed, manner_of, digit_value, Counted, Tallied, kind_is_term, parts_are_terms};
+ghost use Rattle.reader.specs.Lines.{upto, Named, Unnamed, manner_of, manner_at, digit_value, Counted, Tallied, kind_is_term, parts_are_terms};
 ghost use Rattle.reader.specs.Lines.{Alone, Ends, Fields, Saw, SawAs};
 ghost use Rattle.reader.specs.Levels.{due, Ready, Top, Served, Fit, Appended, Does};
-ghost use Rattle.reader.specs.Reader.{Says, Room};
+ghost use Rattle.reader.specs.Reader.{Says, Roomy, Room, filled};
 
 use text::kind::Kind;
 use text::node;
@@ -98,7 +98,7 @@ fn is_hashed(b: u8) -> bool
 // Whether s is a name as the kind has it: a variable's may end in backticks, a predicate's or a label's is plain, and where the kind is
 // any other, `#` may stand in it, not first.
 #[tactic(auto, using(crate::proofs::Pieces::no_names))]
-pub fn is_name_of(s: &[u8], kind: Kind) -> bool
+pub fn is_name_of_kind(s: &[u8], kind: Kind) -> bool
     ensures { result ≡ is_name house (manner_of kind) s.now }
 {
     if s.len() > NAME {
@@ -118,6 +118,13 @@ pub fn is_name_of(s: &[u8], kind: Kind) -> bool
         Kind::Predicate => rest.iter().all(|b| is_word(*b)),
         _ => rest.iter().all(|b| is_hashed(*b)),
     }
+}
+
+// The same of a kind's number. A number that is no kind's is taken as a constant's.
+pub fn is_name_of(s: &[u8], kind: u64) -> bool
+    ensures { result ≡ is_name house (manner_at kind) s.now }
+{
+    is_name_of_kind(s, Kind::try_from(kind).unwrap_or(Kind::Constant))
 }
 
 // A digit's value.
@@ -170,7 +177,7 @@ fn variables(s: &[u8], start: usize) -> Option<usize>
     let mut from = start;
     for n in 1..=BLOCK {
         let end = find(s, from, TAB);
-        if !is_name_of(&s[from..end], Kind::Variable) {
+        if !is_name_of_kind(&s[from..end], Kind::Variable) {
             return None;
         }
         if end == s.len() {
@@ -255,7 +262,7 @@ impl<'a> Line<'a> {
         }
         let from = end + 1;
         let stop = find(self.bytes, from, TAB);
-        if stop < self.bytes.len() || !is_name_of(&self.bytes[from..stop], kind) {
+        if stop < self.bytes.len() || !is_name_of_kind(&self.bytes[from..stop], kind) {
             return None;
         }
         Some(Seen {
@@ -278,7 +285,7 @@ impl<'a> Line<'a> {
         }
         let from = end + 1;
         let stop = find(self.bytes, from, TAB);
-        if stop == self.bytes.len() || !is_name_of(&self.bytes[from..stop], kind) {
+        if stop == self.bytes.len() || !is_name_of_kind(&self.bytes[from..stop], kind) {
             return None;
         }
         let last = stop + 1;
@@ -439,14 +446,14 @@ fn step(line: Line, stack: &mut Stack, table: &mut Table) -> Result<(), Flaw>
     Ok(())
 }
 
-// Reads a rule text, line by line. The last piece, behind the last LF, has to be empty, with nothing due. The loop goes by places and not
-// over the pieces, as a table's symbols are places in the text.
+// Reads a rule text into a table that is lent, line by line: a table is eight kilobytes, and is not moved. The last piece, behind the last LF,
+// has to be empty, with nothing due. The loop goes by places and not over the pieces, as a table's symbols are places in the text.
 #[tactic(auto, using(crate::proofs::Runs::starts, crate::proofs::Runs::leads))]
-pub fn read(text: &[u8]) -> Result<Table, Flaw>
-    ensures says { Says (reading house text.now) text.now result }
-    ensures room { Room result }
+pub fn read_into(text: &[u8], table: &mut Table) -> Result<(), Flaw>
+    ensures says { Says (reading house text.now) text.now (filled result table.new) }
+    ensures room { Roomy table.new }
 {
-    let mut table = Table::empty();
+    table.used = 0;
     let mut stack = Stack::new();
     let mut at = 0;
     let mut number = 1;
@@ -454,7 +461,7 @@ pub fn read(text: &[u8]) -> Result<Table, Flaw>
         let end = find(text, at, LF);
         if end == text.len() {
             return if stack.depth == 0 && end == at {
-                Ok(table)
+                Ok(())
             } else {
                 Err(Flaw::Malformed(number))
             };
@@ -464,8 +471,18 @@ pub fn read(text: &[u8]) -> Result<Table, Flaw>
             at,
             number,
         };
-        step(line, &mut stack, &mut table)?;
+        step(line, &mut stack, table)?;
         at = end + 1;
         number += 1;
     }
+}
+
+// The same, in a table of its own.
+pub fn read(text: &[u8]) -> Result<Table, Flaw>
+    ensures says { Says (reading house text.now) text.now result }
+    ensures room { Room result }
+{
+    let mut table = Table::empty();
+    read_into(text, &mut table)?;
+    Ok(table)
 }

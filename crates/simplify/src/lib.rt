@@ -18,6 +18,7 @@ ghost use Rattle.simplify.specs.Stage.{Simplified};
 use substitution::{free_among, terms_span};
 use text::kind::Kind;
 use text::names::Spellings;
+use text::runs;
 use text::table::Table;
 use text::word::{count, kind_of};
 
@@ -45,7 +46,7 @@ fn paste(words: &[u64], out: &mut [u64; Table::WEIGHT], at: usize) -> usize
     ensures { Pastes words.now out.old at out.new result }
 {
     let end = at + words.len();
-    out[at..end].copy_from_slice(words);
+    runs::copy(&mut out[at..end], words);
     end
 }
 

@@ -20,8 +20,10 @@ use Rattle.writer.specs.DigitLaws.{decimal_one, length_more}
 use mathlib.Core.Logic.{◌⊎◌, inl, inr}
 use Rattle.convert.specs.declared.Conversion.{Conversion as Named}
 use Rattle.stream.specs.declared.machine.State.{State}
-use Rattle.stream.specs.declared.machine.State.TheVariants.{First, Refused, Label, Skipped}
-use Rattle.stream.specs.Machine.{at, due_print, last_print, rule_tab, Print, no_print, refusal_print, done_print, rule_print, result_bytes, name_kept, text_kept, longest_label, print_bytes, print_work, last_second}
+use Rattle.stream.specs.declared.machine.State.TheVariants.{First, Refused, Label, Skipped, Poised}
+use Rattle.stream.specs.declared.machine.Early.{Early}
+use Rattle.stream.specs.declared.machine.Early.TheVariants as early
+use Rattle.stream.specs.Machine.{at, due_print, last_print, rule_tab, Print, no_print, refusal_print, done_print, rule_print, result_bytes, name_kept, text_kept, longest_label, print_bytes, print_work, last_second, last_early}
 use Rattle.std.specs.Prelude.{Result as Fallible, Ok, Err}
 use Rattle.convert.specs.declared.Refusal.{Refusal}
 use Rattle.convert.specs.declared.Refusal.TheVariants as refusals
@@ -244,12 +246,20 @@ second_done c k e p = rw (eq-eqb k 0 e) (done_put c p)
 pub second_refused : {o o₁ w : Bytes} {r : ℕ} (c : Conversion) (k : ℕ) → (k ≡ 0 → ⊥) → Wrote o 0 (refusal 2 0) o₁ r → Put (last_second c k) o w r o₁ w
 second_refused c k e p = rw (ne_eqb k 0 e) (refused_put p)
 
+pub early_refused : {o o₁ : Bytes} {r : ℕ} (c : Conversion) (before : Early) (w : Bytes) → ((n : ℕ) × (before ≡ early.First n)) ⊎ (before ≡ early.Refused)
+    → Wrote o 0 (refusal 2 0) o₁ r → Put (last_early c before) o w r o₁ w
+early_refused c before w (inl h) p = rw h.1 (refused_put p)
+early_refused c before w (inr h) p = rw h (refused_put p)
+
 -- What the states print that print nothing of a rule.
-pub nothing_due : (s : State) (kept o w : Bytes) → ((n : ℕ) × (s ≡ First n)) ⊎ ((s ≡ Refused) ⊎ ((c : Named) × (n : ℕ) × (s ≡ Label c n))) → Prints (due_print (at s kept)) o w 0 o w
+pub nothing_due : (s : State) (kept o w : Bytes)
+    → ((n : ℕ) × (s ≡ First n)) ⊎ ((s ≡ Refused) ⊎ (((c : Named) × (n : ℕ) × (s ≡ Label c n)) ⊎ ((c : Named) × (before : Early) × (s ≡ Poised c before))))
+    → Prints (due_print (at s kept)) o w 0 o w
 unfolding due_print
 nothing_due s kept o w (inl h) = rw h.1 (prints_nothing o w)
 nothing_due s kept o w (inr (inl h)) = rw h (prints_nothing o w)
-nothing_due s kept o w (inr (inr h)) = rw h.2 (prints_nothing o w)
+nothing_due s kept o w (inr (inr (inl h))) = rw h.2 (prints_nothing o w)
+nothing_due s kept o w (inr (inr (inr h))) = rw h.2 (prints_nothing o w)
 
 pub unnamed_last : {o o' w : Bytes} {r : ℕ} (s : State) (kept : Bytes) → print_room ≤ length o → ((c : Conversion) (name text w : Bytes) → Put (rule_print c false name text) o w r o' w)
     → ((c : Named) × (n : ℕ) × (s ≡ Label c n)) ⊎ ((c : Named) × (k : ℕ) × (s ≡ Skipped c k)) → Prints (last_print (at s kept)) o w r o' w

@@ -9,9 +9,11 @@ use Rattle.definitions.specs.RuleText.{simple_name, is_name}
 use Rattle.definitions.specs.Convert.{Conversion, convert, work_after}
 use Rattle.definitions.specs.Program.{rule_word, done_word, conversion_word, conversion_of, field_line, refusal, printed, question, conversions}
 use Rattle.stream.specs.declared.machine.State.{State}
+use Rattle.stream.specs.declared.machine.Early.{Early}
+use Rattle.stream.specs.declared.machine.Early.TheVariants as early
 use Rattle.convert.specs.declared.Conversion.{Conversion as Named}
 use Rattle.convert.specs.Answers.{named}
-use Rattle.stream.specs.declared.machine.State.TheVariants.{First, Refused, Second, Label, Text, Skipped}
+use Rattle.stream.specs.declared.machine.State.TheVariants.{First, Refused, Second, Label, Text, Skipped, Poised}
 
 -- a conversion that was found, or none
 abbrev pub asked : Maybe Named → Option Conversion
@@ -28,13 +30,15 @@ matches matched b = ltb matched 5 && eqb b (get_or rule_tab matched 0)
 
 -- Where the machine is: in the first line; behind a bad one, where all is skipped; in the second line; in a label; in a rule's text, with
 -- whether its label is good and how long that is. `matched` is how many bytes of `rule` TAB the line has begun with; 5 where it has gone
--- another way. The last number of the first line, of a label and of a text is how many bytes are kept.
+-- another way. The last number of the first line, of a label and of a text is how many bytes are kept. Last, where no rule line can begin
+-- and yet the four bytes of `rule` are said to stand before: no run comes to it, and all that is said of machines holds of it too.
 pub data Mode : Type 0 where
   first_line : ℕ → Mode
   refused_file : Mode
   second_line : Conversion → ℕ → Mode
   in_label : Conversion → ℕ → Mode
   in_text : Conversion → Bool → ℕ → ℕ → ℕ → Mode
+  poised : Conversion → Early → Mode
 
 -- the state of the code in these words
 abbrev pub mode : State → Mode
@@ -44,6 +48,7 @@ mode (Second c matched) = second_line (named c) matched
 mode (Label c size) = in_label (named c) size
 mode (Text c matched label size) = in_text (named c) true matched label size
 mode (Skipped c matched) = in_text (named c) false matched 0 0
+mode (Poised c before) = poised (named c) before
 
 -- What the machine holds: its mode, and the lent buffer that keeps the first line, or the label and behind it the text.
 pub record Machine : Type 0 where
@@ -109,12 +114,19 @@ text_step kept c good matched label size b =
     (record { state = in_text c true (next_matched matched b) label (grown size kept); kept = set kept size b })
     (record { state = in_text c false (next_matched matched b) label size; kept = kept })
 
+-- where no rule line can begin, a byte that doesn't complete `rule` TAB is read as one of that place
+abbrev pub early_step : Bytes → Conversion → Early → ℕ → Machine
+early_step kept c (early.First size) b = first_step kept size b
+early_step kept c early.Refused b = record { state = refused_file; kept = kept }
+early_step kept c (early.Label size) b = label_step kept c size b
+
 abbrev pub step_in : Mode → Bytes → ℕ → Machine
 step_in (first_line size) kept b = first_step kept size b
 step_in refused_file kept b = record { state = refused_file; kept = kept }
 step_in (second_line c matched) kept b = second_step kept c matched b
 step_in (in_label c size) kept b = label_step kept c size b
 step_in (in_text c good matched label size) kept b = text_step kept c good matched label size b
+step_in (poised c before) kept b = early_step kept c before b
 
 unfoldable pub step : Machine → ℕ → Machine
 step m b = step_in m.state m.kept b
@@ -139,6 +151,7 @@ matched_in refused_file = 5
 matched_in (second_line c matched) = matched
 matched_in (in_label c size) = 5
 matched_in (in_text c good matched label size) = matched
+matched_in (poised c before) = 4
 
 abbrev pub complete : Mode → ℕ → Bool
 complete m b = eqb (matched_in m) 4 && eqb b TAB
@@ -149,6 +162,7 @@ print_in refused_file kept = no_print
 print_in (second_line c matched) kept = done_print c
 print_in (in_label c size) kept = no_print
 print_in (in_text c good matched label size) kept = rule_print c good (name_kept kept label) (text_kept kept label (size - 4))
+print_in (poised c before) kept = no_print
 
 unfoldable pub due_print : Machine → Print
 due_print m = print_in m.state m.kept
@@ -160,6 +174,7 @@ opened_in refused_file = refused_file
 opened_in (second_line c matched) = in_label c 0
 opened_in (in_label c size) = in_label c size
 opened_in (in_text c good matched label size) = in_label c 0
+opened_in (poised c before) = in_label c 0
 
 abbrev pub opened : Machine → Machine
 opened m = record { state = opened_in m.state; kept = m.kept }
@@ -168,12 +183,18 @@ opened m = record { state = opened_in m.state; kept = m.kept }
 abbrev pub last_second : Conversion → ℕ → Print
 last_second c matched = cond (eqb matched 0) (done_print c) refusal_print
 
+abbrev pub last_early : Conversion → Early → Print
+last_early c (early.First size) = refusal_print
+last_early c early.Refused = refusal_print
+last_early c (early.Label size) = rule_print c false [] []
+
 abbrev pub last_in : Mode → Bytes → Print
 last_in (first_line size) kept = refusal_print
 last_in refused_file kept = refusal_print
 last_in (second_line c matched) kept = last_second c matched
 last_in (in_label c size) kept = rule_print c false [] []
 last_in (in_text c good matched label size) kept = rule_print c good (name_kept kept label) (text_kept kept label size)
+last_in (poised c before) kept = last_early c before
 
 unfoldable pub last_print : Machine → Print
 last_print m = last_in m.state m.kept

@@ -5,7 +5,7 @@ ghost use Rattle.definitions.specs.Limits.{house};
 ghost use Rattle.definitions.specs.RuleText.{simple_name, is_name};
 ghost use Rattle.definitions.specs.Program.{do_word, conversion_word, conversions, conversion_of};
 ghost use Rattle.convert.specs.Answers.{named};
-ghost use Rattle.stream.specs.Machine.{at, mode, asked, matches as matches_of, next_matched, grown, second_line, first_step, second_step, label_step, step as machine_step, complete, opened as opened_machine};
+ghost use Rattle.stream.specs.Machine.{at, mode, asked, matches as matches_of, next_matched, grown, second_line, first_step, second_step, label_step, early_step, step as machine_step, complete, opened as opened_machine};
 
 use convert::Conversion;
 use text::kind::Kind;
@@ -35,6 +35,14 @@ const CONVERSIONS: [Conversion; 9] = [
     Conversion::SnfCnf,
     Conversion::SnfDnf,
 ];
+
+// A place where no rule line can begin: the first line, a refused file, a label. `size` is how many bytes are kept.
+#[derive(Clone, Copy)]
+pub enum Early {
+    First { size: usize },
+    Refused,
+    Label { size: usize },
+}
 
 // Where the stream is. `matched` is how many bytes of `rule` TAB the line has begun with, `size` how many bytes are kept.
 #[derive(Clone, Copy)]
@@ -66,6 +74,12 @@ pub enum State {
     Skipped {
         conversion: Conversion,
         matched: usize,
+    },
+    // Where no rule line can begin, and yet `rule` is said to stand before: a TAB opens a label, all else goes on as `before`. No run
+    // comes here; a caller may begin here.
+    Poised {
+        conversion: Conversion,
+        before: Early,
     },
 }
 
@@ -142,7 +156,7 @@ fn conversion(line: &[u8]) -> Option<Conversion>
 fn kept_name(kept: &[u8], size: usize) -> bool
     ensures { result ≡ is_name house simple_name (take size kept.now) }
 {
-    reader::is_name_of(names::clip(kept, 0, size), Kind::Predicate)
+    reader::is_name_of_kind(names::clip(kept, 0, size), Kind::Predicate)
 }
 
 // A byte of the first line. At its LF it names a conversion, or the file is refused; one that is longer than the longest good one is bad
@@ -215,6 +229,17 @@ fn in_label(kept: &mut [u8], conversion: Conversion, size: usize, b: u8) -> Stat
     }
 }
 
+// A byte where no rule line can begin. `conversion` is a label's.
+fn in_early(kept: &mut [u8], conversion: Conversion, before: Early, b: u8) -> State
+    ensures { at result kept.new ≡ early_step kept.old (named conversion) before b }
+{
+    match before {
+        Early::First { size } => in_first(kept, size, b),
+        Early::Refused => State::Refused,
+        Early::Label { size } => in_label(kept, conversion, size, b),
+    }
+}
+
 // A byte, in whatever state.
 #[tactic(auto, unfolding(crate::specs::Machine::step, crate::specs::Machine::text_step))]
 pub fn step(state: State, kept: &mut [u8], b: u8) -> State
@@ -246,6 +271,7 @@ pub fn step(state: State, kept: &mut [u8], b: u8) -> State
             conversion,
             matched: matched_behind(matched, b),
         },
+        State::Poised { conversion, before } => in_early(kept, conversion, before, b),
     }
 }
 
@@ -255,7 +281,8 @@ pub(crate) fn opened(state: State, b: u8) -> Option<State>
         (λ s. (complete (mode state) b ≡ true) × ((kept : Bytes) → at s kept ≡ opened_machine (at state kept))) }
 {
     match state {
-        State::Second {
+        State::Poised { conversion, .. }
+        | State::Second {
             conversion,
             matched: 4,
         }

@@ -6,10 +6,10 @@ ghost use Rattle.definitions.specs.Convert.{Conversion as Form, work_after};
 ghost use Rattle.definitions.specs.Program.{conversion_word, done_word, field_line, refusal};
 ghost use Rattle.writer.specs.Writer.{Wrote};
 ghost use Rattle.convert.specs.Answers.{named};
-ghost use Rattle.stream.specs.Machine.{at, name_kept, text_kept, print_bytes, print_work, result_bytes, rule_print, due_print, last_print};
+ghost use Rattle.stream.specs.Machine.{at, name_kept, text_kept, print_bytes, print_work, result_bytes, rule_print, last_early, due_print, last_print};
 ghost use Rattle.stream.specs.Pushing.{print_room, Put, Prints};
 
-use crate::machine::{LABEL, State, name};
+use crate::machine::{Early, LABEL, State, name};
 use convert::Conversion;
 use text::names;
 
@@ -97,6 +97,17 @@ fn put_done(out: &mut [u8], conversion: Conversion) -> usize
     put_line(out, 0, b"done\t", name(conversion))
 }
 
+// Writes what is left at the end of the input where no rule line can begin.
+fn put_early(out: &mut [u8], before: Early) -> usize
+    requires { print_room ≤ length out.old }
+    ensures { (c : Form) (w : Bytes) → Put (last_early c before) out.old w result out.new w }
+{
+    match before {
+        Early::First { .. } | Early::Refused => put_refusal(out, 0, 2, 0),
+        Early::Label { .. } => put_unnamed(out),
+    }
+}
+
 // Prints what is due where `rule` TAB is complete: the `done` line, or the rule before. Of `rule` four bytes are kept. Gives how many
 // bytes were printed. Where out is shorter than ROOM nothing is printed.
 pub fn due(state: State, kept: &[u8], out: &mut [u8], work: &mut [u8]) -> usize
@@ -106,7 +117,7 @@ pub fn due(state: State, kept: &[u8], out: &mut [u8], work: &mut [u8]) -> usize
         return 0;
     }
     match state {
-        State::First { .. } | State::Refused | State::Label { .. } => 0,
+        State::First { .. } | State::Refused | State::Label { .. } | State::Poised { .. } => 0,
         State::Second { conversion, .. } => put_done(out, conversion),
         State::Text {
             conversion,
@@ -139,5 +150,6 @@ pub fn last(state: State, kept: &[u8], out: &mut [u8], work: &mut [u8]) -> usize
             size,
             ..
         } => put_rule(out, conversion, kept, label, size, work),
+        State::Poised { before, .. } => put_early(out, before),
     }
 }

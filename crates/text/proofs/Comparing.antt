@@ -1,10 +1,11 @@
 -- Two names compared: what std's equality and order say of two slices, in words of the definitions.
-use Rattle.std.proofs.Common.{◌≡◌, refl, sym, ap, ◌∙◌, ℕ, ◌<◌, [], ◌∷◌, Bool, true, false, ◌&&◌, arith, eqb, ltb, eqb-true, ltb-true, ltb-false, le-leb}
+use Rattle.std.proofs.Common.{◌≡◌, refl, sym, ap, ◌∙◌, ℕ, ◌-◌, ◌<◌, [], ◌∷◌, length, drop, Bool, true, false, not, ◌&&◌, arith, eqb, ltb, eqb-true, ltb-true, ltb-false, le-leb}
 use Rattle.std.proofs.lemmas.Bool.{eqb-false}
 use lib.Dec.{is_le, compare_is_eq}
 use borrow.Author.Tests.{eq-eqb, ne_eqb, lt-leb}
 use mathlib.Core.Bool.{true≢false}
 use Rattle.definitions.proofs.Laws.Bools.{by_cases}
+use Rattle.definitions.proofs.Laws.Sets.{same_eq, same_refl}
 use Rattle.std.specs.Cmp.Lexicographic.{slice_cmp, pointwise}
 use Rattle.std.specs.Ordering.{nat_cmp, ordering_then}
 use Rattle.std.specs.declared.cmp.Ordering.{Ordering as Answer}
@@ -21,6 +22,16 @@ equal_bytes [] [] = refl
 equal_bytes [] (y ∷ b) = refl
 equal_bytes (x ∷ a) [] = refl
 equal_bytes (x ∷ a) (y ∷ b) = ap (λ (t : Bool). eqb x y && t) (equal_bytes a b)
+
+-- names whose last n bytes differ are not the same
+pub ends_differ : (a b x y : Name) (n : ℕ) → x ≡ drop (length a - n) a → y ≡ drop (length b - n) b
+    → not (pointwise eqb x y) ≡ true → same a b ≡ false
+ends_differ a b x y n e f d =
+    by_cases (same a b)
+    (λ t. let same_ends : x ≡ y = e ∙ ap (λ s. drop (length s - n) s) (same_eq a b t) ∙ sym f in
+    let same_bytes : pointwise eqb x y ≡ true = equal_bytes x y ∙ rw (sym same_ends) (same_refl x) in
+    absurd (true≢false (sym d ∙ ap not same_bytes)))
+    (λ u. u)
 
 -- Which comes first.
 is_less : (o : Ordering) → is_le o ≡ true → compare_is_eq o ≡ false → o ≡ Ordering.lt

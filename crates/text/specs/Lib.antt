@@ -12,3 +12,4 @@ pub mod PrefixLaws
 pub mod Kinds
 pub mod Nodes
 pub mod NodeLaws
+pub mod Copies

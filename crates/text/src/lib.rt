@@ -4,5 +4,6 @@
 pub mod kind;
 pub mod names;
 pub mod node;
+pub mod runs;
 pub mod table;
 pub mod word;

@@ -10,6 +10,7 @@ ghost use Rattle.writer.specs.Writer.{keyword_of, after, end as line_end, name_i
 
 use text::kind::Kind;
 use text::names::Spellings;
+use text::runs;
 use text::word::{count, kind_of};
 
 const TAB: u8 = b'\t';
@@ -39,7 +40,7 @@ pub fn put_run(out: &mut [u8], at: usize, run: &[u8]) -> usize
         return at;
     }
     let end = at + run.len();
-    out[at..end].copy_from_slice(run);
+    runs::copy(&mut out[at..end], run);
     end
 }
 

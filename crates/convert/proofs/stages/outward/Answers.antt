@@ -11,7 +11,7 @@ use Rattle.convert.proofs.stages.outward.Goals as goal
 
 pub returns : goal.returns
 returns c =
-    let p = rw c.words.ensures at c.prenex.ensures in
+    let p = rw c.words.ensures at c.prenex_into.ensures.stage in
     let s = c.simplify.ensures in
     let t = c.simplify.new.out in
     record {

@@ -25,3 +25,7 @@ returns-in-Label c = unnamed_last _ _ c.if-out-lt-ROOM.false c.put_unnamed.ensur
 pub returns-in-Text : goal.returns-in-Text
 unfolding last_print
 returns-in-Text c = rw c.in-Text.is (prints_put c.if-out-lt-ROOM.false c.put_rule.ensures)
+
+pub returns-in-Poised : goal.returns-in-Poised
+unfolding last_print
+returns-in-Poised c = rw c.in-Poised.is (prints_put c.if-out-lt-ROOM.false (c.put_early.ensures _ _))

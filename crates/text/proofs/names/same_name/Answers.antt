@@ -2,5 +2,5 @@ use Rattle.std.proofs.Common.{◌∙◌}
 use Rattle.text.proofs.Comparing.{equal_bytes}
 use Rattle.text.proofs.names.same_name.Goals as goal
 
-pub returns : goal.returns
-returns c = c.eq.ensures ∙ equal_bytes c.args.a.now c.args.b.now
+pub returns-then-not-differ_behind : goal.returns-then-not-differ_behind
+returns-then-not-differ_behind c = c.eq.ensures ∙ equal_bytes c.args.a.now c.args.b.now

@@ -2,8 +2,8 @@
 use Rattle.std.proofs.Common.{refl, arith}
 use Rattle.std.proofs.lemmas.Result.{err_from_is_err_and}
 use Rattle.reader.proofs.Runs.{ends, ends_bare, ends_due, stops}
-use Rattle.reader.proofs.read.Goals as goal
-use Rattle.reader.proofs.read.Goals.{else-stack-eq0-via-then-stack-eq0+else-end-at, else-stack-eq0-via-else-stack-eq0}
+use Rattle.reader.proofs.read_into.Goals as goal
+use Rattle.reader.proofs.read_into.Goals.{else-stack-eq0-via-then-stack-eq0+else-end-at, else-stack-eq0-via-else-stack-eq0}
 
 pub returns-then-end-at-clause-says : goal.returns-then-end-at-clause-says
 returns-then-end-at-clause-says c =

@@ -5,7 +5,7 @@ use Rattle.std.proofs.lemmas.Iterator.Search.{all_from_yields_List, position_fro
 use Rattle.definitions.specs.Bytes.{null, skip}
 use Rattle.definitions.specs.RuleText.{tick, word, hashed, behind}
 use Rattle.reader.proofs.Pieces.{first_place, all_skipped, skipped, name_rest, rest_of, other_manner}
-use Rattle.reader.proofs.is_name_of.Goals as goal
+use Rattle.reader.proofs.is_name_of_kind.Goals as goal
 
 pub returns-in-Variable : goal.returns-in-Variable
 unfolding behind tick
