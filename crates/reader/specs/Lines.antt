@@ -1,7 +1,7 @@
 -- A line of rule text as the reader takes it apart: the kind that its keyword names, the name and the count behind it, and the words that
 -- stand for its node.
 use Rattle.std.specs.Prelude.{◌≡◌, Bool, true, false, not, ◌&&◌, cond, List, [], ◌∷◌, ◌++◌, map, ℕ, suc, ◌+◌, ◌-◌, ◌≤◌, ◌<◌, eqb, leb, ltb, length}
-use Rattle.std.specs.Prelude.{take, drop, Option, Some, None, MatchOption}
+use Rattle.std.specs.Prelude.{refl, take, drop, Option, Some, None, MatchOption}
 use Rattle.std.proofs.Math.Option.{Option as Perhaps, none, some}
 use Rattle.definitions.specs.Bytes.{Bytes, TAB, split, number}
 use Rattle.definitions.specs.Limits.{house}
@@ -12,6 +12,7 @@ use Rattle.definitions.specs.Reading.{Kind as Keyword, unknown, keywords, look_u
 use Rattle.definitions.specs.Reading.{node_weight, is_term, parts, some_due}
 use Rattle.text.specs.declared.kind.Kind.{Kind}
 use Rattle.text.specs.declared.kind.Kind.TheVariants.{Top, Bottom, Not, And, Or, Implies, Iff, Equals, All, Exists, Predicate, Function, Variable, Constant}
+use Rattle.text.specs.Kinds.{number as kind_number}
 use Rattle.text.specs.Words.{is_made, size_of, start_of, Token, var_token, sign, tokens, op_kind, block_code}
 use Rattle.reader.specs.declared.Seen.{Seen}
 
@@ -64,6 +65,23 @@ manner_of Constant = symbol_name
 -- the same of a kind's number, and of any other
 abbrev pub manner_at : ℕ → Manner
 manner_at k = cond (eqb k 12) variable_name (cond (eqb k 10) simple_name symbol_name)
+
+-- for a kind's number it is the kind's
+pub numbered_manner : (kind : Kind) → manner_at (kind_number kind) ≡ manner_of kind
+numbered_manner Top = refl
+numbered_manner Bottom = refl
+numbered_manner Not = refl
+numbered_manner And = refl
+numbered_manner Or = refl
+numbered_manner Implies = refl
+numbered_manner Iff = refl
+numbered_manner Equals = refl
+numbered_manner All = refl
+numbered_manner Exists = refl
+numbered_manner Predicate = refl
+numbered_manner Function = refl
+numbered_manner Variable = refl
+numbered_manner Constant = refl
 
 -- a digit's value
 abbrev pub digit_value : ℕ → Option ℕ

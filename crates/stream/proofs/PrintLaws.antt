@@ -23,7 +23,8 @@ use Rattle.stream.specs.declared.machine.State.{State}
 use Rattle.stream.specs.declared.machine.State.TheVariants.{First, Refused, Label, Skipped, Poised}
 use Rattle.stream.specs.declared.machine.Early.{Early}
 use Rattle.stream.specs.declared.machine.Early.TheVariants as early
-use Rattle.stream.specs.Machine.{at, due_print, last_print, rule_tab, Print, no_print, refusal_print, done_print, rule_print, result_bytes, name_kept, text_kept, longest_label, print_bytes, print_work, last_second, last_early}
+use Rattle.stream.specs.Machine.{at, due_print, last_print, rule_tab, Print, no_print, refusal_print, done_print, rule_print, result_bytes, name_kept}
+use Rattle.stream.specs.Machine.{text_kept, longest_label, print_bytes, print_work, last_second, last_early}
 use Rattle.std.specs.Prelude.{Result as Fallible, Ok, Err}
 use Rattle.convert.specs.declared.Refusal.{Refusal}
 use Rattle.convert.specs.declared.Refusal.TheVariants as refusals

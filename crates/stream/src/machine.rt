@@ -5,7 +5,8 @@ ghost use Rattle.definitions.specs.Limits.{house};
 ghost use Rattle.definitions.specs.RuleText.{simple_name, is_name};
 ghost use Rattle.definitions.specs.Program.{do_word, conversion_word, conversions, conversion_of};
 ghost use Rattle.convert.specs.Answers.{named};
-ghost use Rattle.stream.specs.Machine.{at, mode, asked, matches as matches_of, next_matched, grown, second_line, first_step, second_step, label_step, early_step, step as machine_step, complete, opened as opened_machine};
+ghost use Rattle.stream.specs.Machine.{at, mode, asked, matches as matches_of, next_matched, grown, second_line, complete, opened as opened_machine};
+ghost use Rattle.stream.specs.Machine.{first_step, second_step, label_step, early_step, step as machine_step};
 
 use convert::Conversion;
 use text::kind::Kind;

@@ -14,7 +14,8 @@ returns-then-rule-gt-WEIGHT-clause-stage c =
     rw c.untouched-then-rule-gt-WEIGHT.ensures (too_heavy _ _ c.in-Some.ensures (omega arith) (omega (arith, c.if-rule-gt-WEIGHT.true)))
 
 pub outward-walked-requires : goal.outward-walked-requires
-outward-walked-requires c = rw (c.empty.ensures, c.empty-2.ensures) (empty_begins (omega arith), omega (arith, length-take c.in-Some.rule.next c.args.words.now))
+outward-walked-requires c =
+    rw (c.empty.ensures, c.empty-2.ensures) (empty_begins (omega arith), omega (arith, length-take c.in-Some.rule.next c.args.words.now))
 
 pub returns-in-Err-clause-stage : goal.returns-in-Err-clause-stage
 returns-in-Err-clause-stage c =

@@ -9,4 +9,5 @@ pub returns : goal.returns
 returns c =
     let n = length c.args.words.now in
     let k : n ≡ c.args.at + n - c.args.at = omega arith in
-    rw (put_mid-paste c.args.at (c.args.at + n - c.args.at) c.args.out.now c.copy.new.to c.args.words.now n (c.copy.ensures.whole (omega arith)) k refl) (pasted (omega arith))
+    let whole = c.copy.ensures.whole (omega arith) in
+    rw (put_mid-paste c.args.at (c.args.at + n - c.args.at) c.args.out.now c.copy.new.to c.args.words.now n whole k refl) (pasted (omega arith))

@@ -14,8 +14,10 @@ returns-then-has_hash c = λ m f u. is_refused (hashed_rule f _ (c.has_hash.ensu
 
 pub returns-in_err-used : goal.returns-in_err-used
 returns-in_err-used c =
-    λ m f u. handed _ c.from_residual.ensures.1
-    (as_well (sym (clean_rule f _ (c.has_hash.ensures f (u.words _)) c.if-has_hash.false)) (prenex_refused _ _ c.outward.ensures (ap (λ r. held r c.outward.new.prefix c.outward.new.matrix) c.in_err-used.was) m u))
+    λ m f u.
+    let e = ap (λ r. held r c.outward.new.prefix c.outward.new.matrix) c.in_err-used.was in
+    handed _ c.from_residual.ensures.1
+    (as_well (sym (clean_rule f _ (c.has_hash.ensures f (u.words _)) c.if-has_hash.false)) (prenex_refused _ _ c.outward.ensures e m u))
 
 pub returns : goal.returns
 returns c =
